@@ -1,2 +1,3 @@
 pub mod Runs
 pub mod Valid
+pub mod Windows

@@ -1,25 +1,26 @@
 -- Laws of the bits of a slice of words: of a place in a word, of counts and of selects, for the ones and for the zeros. Assumes nothing.
 use mathlib.Core.Path.{_≡_, refl, sym, ap, ap₂, _∙_, subst, subst⁻¹}
-use mathlib.Core.List.{List}
+use mathlib.Core.List.{List, [], _∷_}
 use mathlib.Core.Bool.{Bool, true, false}
 use Prim.Native.Nat.{ℕ, zero, suc, _+_, _-_, _*_, _/_, _%_, _^_, _≤_, _<_}
-use native.Mathlib.Nat.{le-refl, lt-of-lt-of-le, le-of-suc-le-suc, mul-one, mod-eq-of-lt, div-add-mod', le-trans}
+use native.Mathlib.Nat.{le-dest, mul-assoc, mul-div-cancel, pow-suc, zero-add, not-suc-le-zero, le-refl, lt-of-lt-of-le, le-of-suc-le-suc, mul-one, mod-eq-of-lt, div-add-mod', le-trans}
 use native.Mathlib.Omega.{arith}
-use lib.ListN.{getD}
+use lib.ListN.{length, getD}
 use lib.Dec.{lit<}
+use lib.Pow.{pow-pos, pow-add}
 use Rattle.broadword.specs.Bits.{bit, count, ones}
 use Rattle.broadword.specs.Fields.{digit, word}
 use Rattle.broadword.specs.Places.{select}
 use Rattle.broadword.specs.declared.Found.{Found}
 use Rattle.broadword.specs.declared.Found.the-variants.{At, Nothing}
-use Rattle.broadword.proofs.Count.{bit-le, count-add, count-same, count-le, count-mono}
+use Rattle.broadword.proofs.Count.{bit-le, bit-mod, bit-shift, count-zero, count-add, count-same, count-le, count-mono}
 use Rattle.broadword.proofs.Fields.{digit-is, digit-lt, digit-word, word-digits, word-sub}
 use Rattle.broadword.proofs.Find.{Selected, selected, select-at, select-none}
 use Rattle.bit_vectors.specs.Vector.{bitAt, bitOver, wordOver}
 
 -- ---- a word's complement
 
-bit-digit-1 : (w j : ℕ) → digit 1 w j ≡ bit w j
+pub bit-digit-1 : (w j : ℕ) → digit 1 w j ≡ bit w j
 unfolding bit
 bit-digit-1 w j = digit-is 1 w j ∙ ap (λ (n : ℕ). w / 2 ^ n % 2) (mul-one j)
 
@@ -36,6 +37,12 @@ bit-not w j h l =
     ∙ ap (λ (x : ℕ). 1 - x) (bit-digit-1 w j)
 
 -- ---- a place by its word
+
+-- past the end of a list
+pub getD-past : (ws : List ℕ) (i : ℕ) → length ws ≤ i → getD ws i 0 ≡ 0
+getD-past [] i h = refl
+getD-past (w ∷ ws) zero h = absurd (not-suc-le-zero h)
+getD-past (w ∷ ws) (suc i) h = getD-past ws i (le-of-suc-le-suc h)
 
 -- every word of the list is one
 abbrev pub Fit : List ℕ → Type 0
@@ -86,3 +93,54 @@ module _ (f W : ℕ → ℕ) (by-word : (i j : ℕ) → j < 64 → f (i * 64 + j
       let w : s < 64 = r .within in
       let c : count f (i * 64) + ones (W i) s ≡ k = omega (arith, r .before) in
       select-at f n k (i * 64 + s) l (by-word i s w ∙ r .one) (count-word i s (omega arith) ∙ c)
+
+-- ---- what a turn over a word adds, for the ones (true) or the zeros (false)
+
+module _ (b : Bool) (ws : List ℕ) (fit : Fit ws) where
+  pub over-next : (i : ℕ) → count (bitOver b ws) ((i + 1) * 64) ≡ count (bitOver b ws) (i * 64) + ones (wordOver b (getD ws i 0)) 64
+  over-next = count-next (bitOver b ws) (λ i. wordOver b (getD ws i 0)) (bitOver-word b ws fit)
+
+  -- x is the word i, and p its ones
+  pub turn : (i x p : ℕ) → x ≡ wordOver b (getD ws i 0) → p ≡ ones x 64 → count (bitOver b ws) ((i + 1) * 64) ≡ count (bitOver b ws) (i * 64) + p
+  turn i x p ex ep = over-next i ∙ ap (λ (y : ℕ). count (bitOver b ws) (i * 64) + y) (sym (ep ∙ ap (λ (y : ℕ). ones y 64) ex))
+
+  pub over-le : (n : ℕ) → count (bitOver b ws) n ≤ n
+  over-le n = count-le (bitOver b ws) n (bitOver-le b ws)
+
+-- ---- a rank: whole words, and the low bits of one
+
+-- a bit below those of a number shifted up
+bit-under : (w s j : ℕ) → j < s → bit (w * 2 ^ s) j ≡ 0
+unfolding bit
+bit-under w s j h =
+    let d = le-dest h in
+    let p : 2 ^ s ≡ 2 ^ d .0 * 2 * 2 ^ j = ap (λ (y : ℕ). 2 ^ y) (let q : s ≡ suc (d .0) + j = omega (arith, d .1) in q) ∙ pow-add 2 (suc (d .0)) j ∙ ap (λ (y : ℕ). y * 2 ^ j) (pow-suc 2 (d .0)) in
+    let e : w * 2 ^ s ≡ w * 2 ^ d .0 * 2 * 2 ^ j = ap (λ (y : ℕ). w * y) p ∙ simp mul-assoc in
+    let r : w * 2 ^ s / 2 ^ j ≡ w * 2 ^ d .0 * 2 = ap (λ (y : ℕ). y / 2 ^ j) e ∙ mul-div-cancel (w * 2 ^ d .0 * 2) (pow-pos j) in
+    omega arith
+
+-- the ones of a word shifted up are those of its low bits
+pub ones-shl : (w s n : ℕ) → s + n ≡ 64 → ones ((w * 2 ^ s) % 2 ^ 64) 64 ≡ ones w n
+ones-shl w s n e =
+    let y : ℕ = (w * 2 ^ s) % 2 ^ 64 in
+    let low : count (bit y) s ≡ 0 = count-zero (bit y) s (λ j h. bit-mod (w * 2 ^ s) 64 j (omega arith) ∙ bit-under w s j h) in
+    let high : count (λ i. bit y (s + i)) n ≡ ones w n =
+    count-same (λ i. bit y (s + i)) (bit w) n (λ i h.
+    bit-mod (w * 2 ^ s) 64 (s + i) (omega arith) ∙ sym (bit-shift (w * 2 ^ s) s i) ∙ ap (λ (z : ℕ). bit z i) (mul-div-cancel w (pow-pos s))) in
+    ap (count (bit y)) (sym e) ∙ count-add (bit y) s n ∙ ap₂ (λ (p q : ℕ). p + q) low high ∙ zero-add (ones w n)
+
+module _ (ws : List ℕ) (r p pos : ℕ) where
+  -- the word i, whole
+  pub rank-whole : (i : ℕ) → r ≡ count (bitAt ws) (i * 64) → p ≡ ones (getD ws i 0) 64 → r + p ≡ count (bitAt ws) ((i + 1) * 64)
+  rank-whole i er ep = ap₂ (λ (a b : ℕ). a + b) er ep ∙ sym (count-next (bitAt ws) (λ i. getD ws i 0) (bitAt-word ws) i)
+
+  -- and of the last word the bits below pos
+  pub rank-part : (i : ℕ) → r ≡ count (bitAt ws) (i * 64) → i ≡ pos / 64 → p ≡ ones ((getD ws (pos / 64) 0 * 2 ^ (64 - pos % 64)) % 2 ^ 64) 64 → r + p ≡ count (bitAt ws) pos
+  rank-part i er ei ep =
+      let n : ℕ = pos % 64 in
+      let s : 64 - n + n ≡ 64 = omega arith in
+      ap₂ (λ (a b : ℕ). a + b) (er ∙ ap (λ (j : ℕ). count (bitAt ws) (j * 64)) ei) (ep ∙ ones-shl (getD ws (pos / 64) 0) (64 - n) n s)
+      ∙ sym (count-word (bitAt ws) (λ i. getD ws i 0) (bitAt-word ws) (pos / 64) n (omega arith)) ∙ ap (count (bitAt ws)) (div-add-mod' pos 64)
+
+pub rank-le : (ws : List ℕ) (n : ℕ) → count (bitAt ws) n ≤ n
+rank-le ws n = count-le (bitAt ws) n (bitAt-le ws)

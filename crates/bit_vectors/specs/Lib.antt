@@ -1,2 +1,3 @@
-pub mod Vector
+pub mod Inner
 pub mod Queries
+pub mod Vector

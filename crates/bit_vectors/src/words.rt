@@ -1,8 +1,15 @@
-// The words of a bit vector. These are for the layers that hold words of their own: `word_over` demands a word that is there.
+// The words of a bit vector: what the calls on it, and the layers that hold words of their own, share.
+//
+// `words_for` and `is_invalid` take anything. The others are inner: each demands the words that it reads, as its `requires` says.
 ghost use mathlib.Core.Path.{_≡_};
-ghost use Prim.Native.Nat.{_<_};
-ghost use lib.ListN.{length, getD};
-ghost use Rattle.bit_vectors.specs.Vector.{wordsFor, invalid, wordOver};
+ghost use Prim.Native.Nat.{_+_, _*_, _/_, _%_, _^_, _<_, _≤_};
+ghost use mathlib.Core.List.{_++_};
+ghost use lib.ListN.{length, getD, take, drop, replicate};
+ghost use Rattle.broadword.specs.Bits.{count};
+ghost use Rattle.broadword.specs.Fields.{word};
+ghost use Rattle.bit_vectors.specs.Vector.{bitAt, bitOver, wordsFor, invalid, wordOver};
+ghost use Rattle.bit_vectors.specs.Inner.{Skipped, Ending};
+use broadword::popcount;
 
 pub const WORD_LEN: usize = 64;
 
@@ -40,4 +47,103 @@ pub fn word_over(words: &[u64], i: usize, over_one: bool) -> u64
     ensures { λ r. ⌜ r ≡ wordOver «over_one» (getD (now (words .entry)) i 0) ⌝ }
 {
     if over_one { words[i] } else { !words[i] }
+}
+
+// The lowest bits of x.
+pub fn low_bits(x: u64, width: usize) -> u64
+    requires { ⌜ width ≤ 64 ⌝ }
+    ensures { λ r. ⌜ r ≡ x % 2 ^ width ⌝ }
+{
+    if width == WORD_LEN {
+        return x;
+    }
+    x & ((1 << width) - 1)
+}
+
+// The 64 bits from pos on, of the first `used` words.
+pub fn window(words: &[u64], used: usize, pos: usize) -> u64
+    requires { ⌜ ((pos / 64 < used) × (used ≤ length (now words))) ⌝ }
+    ensures { λ r. ⌜ r ≡ word 1 (λ i. bitAt (take used (now (words .entry))) (pos + i)) 64 ⌝ }
+{
+    let at = pos / WORD_LEN;
+    let shift = pos % WORD_LEN;
+    let low = words[at] >> shift;
+    if shift == 0 {
+        return low;
+    }
+    if used <= at + 1 {
+        return low;
+    }
+    low | (words[at + 1] << (WORD_LEN - shift))
+}
+
+// The ones below pos.
+pub fn rank_words(words: &[u64], pos: usize) -> usize
+    requires { ⌜ pos ≤ length (now words) * 64 ⌝ }
+    ensures { λ r. ⌜ r ≡ count (bitAt (now (words .entry))) pos ⌝ }
+{
+    let whole = pos / WORD_LEN;
+    let left = pos % WORD_LEN;
+    let mut r: usize = 0;
+    let mut i = 0;
+    while i < whole {
+        r += popcount(words[i]);
+        i += 1;
+    }
+    if left == 0 {
+        return r;
+    }
+    r + popcount(words[whole] << (WORD_LEN - left))
+}
+
+// A word, and how many ones of it stand before the one that was looked for.
+pub struct Spot {
+    pub word: usize,
+    pub left: usize,
+}
+
+// The word, from the word `first` on, in which the one with k before it stands, counted from that word on; `used` where none has it.
+pub fn skip_words(words: &[u64], first: usize, used: usize, over_one: bool, k: usize) -> Spot
+    requires { ⌜ ((first ≤ used) × (used ≤ length (now words))) ⌝ }
+    ensures { λ r. ⌜ Skipped (bitOver «over_one» (now (words .entry))) first used k (r .word) (r .left) ⌝ }
+{
+    let mut word = first;
+    let mut left = k;
+    while word < used {
+        let ones = popcount(word_over(words, word, over_one));
+        if left < ones {
+            break;
+        }
+        left -= ones;
+        word += 1;
+    }
+    Spot { word, left }
+}
+
+// How many of the first `end` words there are up to the last that is not 0.
+pub fn last_used(words: &[u64], end: usize) -> usize
+    requires { ⌜ end ≤ length (now words) ⌝ }
+    ensures { λ r. ⌜ Ending (now (words .entry)) end r ⌝ }
+{
+    let mut n = end;
+    while 0 < n {
+        let i = n - 1;
+        if words[i] != 0 {
+            break;
+        }
+        n = i;
+    }
+    n
+}
+
+// The first n words are set to x.
+pub fn fill(words: &mut [u64], n: usize, x: u64)
+    requires { ⌜ n ≤ length (now words) ⌝ }
+    ensures { λ _. ⌜ now (words .exit) ≡ replicate n x ++ drop n (now (words .entry)) ⌝ }
+{
+    let mut i = 0;
+    while i < n {
+        words[i] = x;
+        i += 1;
+    }
 }
