@@ -1,3 +1,5 @@
+pub mod Cases
+pub mod Last
 pub mod Runs
 pub mod Valid
 pub mod Windows

@@ -3,19 +3,21 @@ use mathlib.Core.Path.{_≡_, refl, sym, ap, ap₂, _∙_, subst, subst⁻¹}
 use mathlib.Core.List.{List, [], _∷_}
 use mathlib.Core.Bool.{Bool, true, false}
 use Prim.Native.Nat.{ℕ, zero, suc, _+_, _-_, _*_, _/_, _%_, _^_, _≤_, _<_}
-use native.Mathlib.Nat.{le-dest, mul-assoc, mul-div-cancel, pow-suc, zero-add, not-suc-le-zero, le-refl, lt-of-lt-of-le, le-of-suc-le-suc, mul-one, mod-eq-of-lt, div-add-mod', le-trans}
+use native.Mathlib.Nat.{le-of-eq, le-dest, mul-assoc, mul-div-cancel, pow-suc, zero-add, not-suc-le-zero, le-refl, lt-of-lt-of-le, le-of-suc-le-suc, mul-one, mod-eq-of-lt, div-add-mod', le-trans}
 use native.Mathlib.Omega.{arith}
-use lib.ListN.{length, getD}
-use lib.Dec.{lit<}
+use lib.ListN.{length, getD, take}
+use lib.Seq.{getD-take}
+use lib.Dec.{eqb, lit<}
 use lib.Pow.{pow-pos, pow-add}
 use Rattle.broadword.specs.Bits.{bit, count, ones}
-use Rattle.broadword.specs.Fields.{digit, word}
+use Rattle.broadword.specs.Fields.{digit, flag, word}
 use Rattle.broadword.specs.Places.{select}
 use Rattle.broadword.specs.declared.Found.{Found}
 use Rattle.broadword.specs.declared.Found.the-variants.{At, Nothing}
 use Rattle.broadword.proofs.Count.{bit-le, bit-mod, bit-shift, count-zero, count-add, count-same, count-le, count-mono}
 use Rattle.broadword.proofs.Fields.{digit-is, digit-lt, digit-word, word-digits, word-sub}
-use Rattle.broadword.proofs.Find.{Selected, selected, select-at, select-none}
+use Rattle.broadword.proofs.Table.{each-eq}
+use Rattle.broadword.proofs.Find.{Selected, selected, select-at, select-none, select-some}
 use Rattle.bit_vectors.specs.Vector.{bitAt, bitOver, wordOver}
 
 -- ---- a word's complement
@@ -55,9 +57,22 @@ bitAt-word ws i j h =
     let q : (i * 64 + j) % 64 ≡ j = omega arith in
     ap₂ (λ (a b : ℕ). bit (getD ws a 0) b) p q
 
+-- the first words hold the places below their end
+pub bitAt-take : (n : ℕ) (ws : List ℕ) (i : ℕ) → i < n * 64 → bitAt (take n ws) i ≡ bitAt ws i
+unfolding bitAt
+bitAt-take n ws i h = ap (λ (w : ℕ). bit w (i % 64)) (getD-take n ws (i / 64) 0 (omega arith))
+
 pub bitAt-le : (ws : List ℕ) (i : ℕ) → bitAt ws i ≤ 1
 unfolding bitAt
 bitAt-le ws i = bit-le (getD ws (i / 64) 0) (i % 64)
+
+-- the bit as a test of the word, shifted down
+pub bit-flag : (ws : List ℕ) (i : ℕ) → flag (eqb (getD ws (i / 64) 0 / 2 ^ (i % 64) % 2) 1) ≡ bitAt ws i
+unfolding bitAt bit
+bit-flag ws i = test (getD ws (i / 64) 0 / 2 ^ (i % 64) % 2) (omega arith)
+  where
+    test : (b : ℕ) → b < 2 → flag (eqb b 1) ≡ b
+    test = each-eq (λ b. flag (eqb b 1)) (λ b. b) 2 tt
 
 pub bitOver-le : (b : Bool) (ws : List ℕ) (i : ℕ) → bitOver b ws i ≤ 1
 unfolding bitOver
@@ -104,6 +119,15 @@ module _ (b : Bool) (ws : List ℕ) (fit : Fit ws) where
   pub turn : (i x p : ℕ) → x ≡ wordOver b (getD ws i 0) → p ≡ ones x 64 → count (bitOver b ws) ((i + 1) * 64) ≡ count (bitOver b ws) (i * 64) + p
   turn i x p ex ep = over-next i ∙ ap (λ (y : ℕ). count (bitOver b ws) (i * 64) + y) (sym (ep ∙ ap (λ (y : ℕ). ones y 64) ex))
 
+  -- fewer than the ones of the word i, which is x
+  pub left-lt : (i left x : ℕ) → x ≡ wordOver b (getD ws i 0) → count (bitOver b ws) (i * 64) + left < count (bitOver b ws) ((i + 1) * 64) → left < ones x 64
+  left-lt i left x ex h = let t = turn i x (ones x 64) ex refl in omega arith
+
+  -- counted from the first word
+  pub from-first : (n left k : ℕ) → count (bitOver b ws) n + left ≡ count (bitOver b ws) 0 + k → count (bitOver b ws) n + left ≡ k
+  unfolding count
+  from-first n left k e = e ∙ zero-add k
+
   pub over-le : (n : ℕ) → count (bitOver b ws) n ≤ n
   over-le n = count-le (bitOver b ws) n (bitOver-le b ws)
 
@@ -144,3 +168,35 @@ module _ (ws : List ℕ) (r p pos : ℕ) where
 
 pub rank-le : (ws : List ℕ) (n : ℕ) → count (bitAt ws) n ≤ n
 rank-le ws n = count-le (bitAt ws) n (bitAt-le ws)
+
+-- ---- a select by words, for the ones (true) or the zeros (false)
+
+module _ (b : Bool) (ws : List ℕ) (fit : Fit ws) (k n : ℕ) where
+  -- too few
+  pub select-few : (m : ℕ) → n ≤ m → count (bitOver b ws) m ≤ k → select (bitOver b ws) n k ≡ Nothing
+  select-few m h l = select-none (bitOver b ws) n k (le-trans (count-mono (bitOver b ws) n m h) l)
+
+  -- at the place s of the word i, which is x, with `left` ones of it before
+  module _ (i left x s : ℕ) (ex : x ≡ wordOver b (getD ws i 0)) (before : count (bitOver b ws) (i * 64) + left ≡ k) (e : select (bit x) 64 left ≡ At s) where
+    in-word : select (bit (wordOver b (getD ws i 0))) 64 (k - count (bitOver b ws) (i * 64)) ≡ At s
+    in-word = let d : k - count (bitOver b ws) (i * 64) ≡ left = omega arith in ap₂ (λ (y m : ℕ). select (bit y) 64 m) (sym ex) d ∙ e
+
+    pub select-lt : s < 64
+    select-lt = selected (bit x) 64 left s e .within
+
+    pub select-in : i * 64 + s < n → select (bitOver b ws) n k ≡ At (i * 64 + s)
+    select-in = select-word (bitOver b ws) (λ i. wordOver b (getD ws i 0)) (bitOver-word b ws fit) i k s n (omega arith) in-word
+
+    pub select-past : n ≤ i * 64 + s → select (bitOver b ws) n k ≡ Nothing
+    select-past h =
+        let m : ℕ = i * 64 + s in
+        let r = selected (bitOver b ws) (m + 1) k m (select-word (bitOver b ws) (λ i. wordOver b (getD ws i 0)) (bitOver-word b ws fit) i k s (m + 1) (omega arith) in-word (omega arith)) in
+        select-few m h (le-of-eq (r .before))
+
+-- a word with more than `left` ones has the place
+pub select-there : (x left : ℕ) → left < ones x 64 → select (bit x) 64 left ≡ Nothing → ⊥
+select-there x left h e =
+    let s = select-some (bit x) 64 left (bit-le x) h in
+    let a = select-at (bit x) 64 left (s .0) (s .1 .within) (s .1 .one) (s .1 .before) in
+    let z : _≡_ {A = ℕ} 0 1 = cc in
+    omega arith

@@ -5,7 +5,7 @@ use Prim.Native.Nat.{ℕ, zero, suc, _+_, _-_, _*_, _/_, _%_, _^_, _≤_, _<_}
 use native.Mathlib.Nat.{mul-one, mul-comm, mul-assoc, add-comm, div-one, mod-eq-of-lt, div-add-mod', mod-lt, div-lt-iff-lt-mul, lt-of-lt-of-le, lt-of-le-of-lt, div-le-self, sub-add-cancel, zero-add, zero-mul, lt-of-not-le}
 use native.Mathlib.Decide.{decLt}
 use native.Mathlib.Omega.{arith}
-use lib.ListN.{getD}
+use lib.ListN.{getD, take}
 use lib.Arith.{digits-lt, digits-div, digits-mod}
 use lib.Pow.{pow-pos, pow-add, split}
 use lib.Bits.{bitOr, or-shifted-r}
@@ -14,7 +14,7 @@ use Rattle.broadword.specs.Fields.{digit, word}
 use Rattle.broadword.proofs.Count.{bit-mod, bit-shift}
 use Rattle.broadword.proofs.Fields.{digit-word, word-digits, word-same}
 use Rattle.bit_vectors.specs.Vector.{bitAt}
-use Rattle.bit_vectors.proofs.Runs.{bit-digit-1, bitAt-word, bitAt-le}
+use Rattle.bit_vectors.proofs.Runs.{bit-digit-1, bitAt-word, bitAt-le, bitAt-take}
 
 -- the bits of a number from s on, as a number
 pub number-bits : (x s n : ℕ) → word 1 (λ i. bit x (s + i)) n ≡ x / 2 ^ s % 2 ^ n
@@ -96,3 +96,9 @@ pub window-whole : (v w : ℕ) → w < 2 ^ 64 → w / 2 ^ 0 ≡ (v * 2 ^ 64 + w)
 window-whole v w h =
     let e : w / 1 ≡ (v * 2 ^ 64 + w) / 1 % 2 ^ 64 = div-one w ∙ sym (ap (λ (y : ℕ). y % 2 ^ 64) (div-one (v * 2 ^ 64 + w)) ∙ digits-mod v {m = 2 ^ 64} {r = w} h) in
     e
+
+-- the lowest bits of a window over the first `used` words, which hold them
+pub narrowed : (ws : List ℕ) (used pos width : ℕ) → width ≤ 64 → pos + width ≤ used * 64 → word 1 (λ i. bitAt (take used ws) (pos + i)) 64 % 2 ^ width ≡ word 1 (λ i. bitAt ws (pos + i)) width
+narrowed ws used pos width h l =
+    number-low (λ i. bitAt (take used ws) (pos + i)) 64 width (λ i. bitAt-le (take used ws) (pos + i)) h
+    ∙ word-same 1 (λ i. bitAt (take used ws) (pos + i)) (λ i. bitAt ws (pos + i)) width (λ i k. bitAt-take used ws (pos + i) (omega arith))

@@ -1,1 +1,168 @@
-// Bit vectors in a plain format.
+// Bit vectors in a plain format: lent words and a length, which each call checks before it answers.
+//
+// `access`, `get_bits`, `get_word64`, `set_bit` and the pushes take constant time; the ranks and selects take time linear in the words.
+ghost use mathlib.Core.Path.{_≡_};
+ghost use mathlib.Core.Bool.{true, false};
+ghost use Prim.Native.Nat.{_/_, _<_};
+ghost use Rattle.errors.specs.Answer.{leaves};
+ghost use Rattle.broadword.specs.Fields.{flag};
+ghost use Rattle.bit_vectors.specs.Vector.{invalid};
+ghost use Rattle.bit_vectors.specs.Queries.{altering, pushing, wording, bitting, counting, placing, accessOf, getBitsOf, getWord64Of, rank1Of, numOnesOf, selectOf, predecessor1Of, setBitOf, pushOf, fromBitOf};
+use super::Altered;
+use super::Bit;
+use super::Count;
+use super::Place;
+use super::Pushed;
+use super::Word;
+use super::words::WORD_LEN;
+use super::words::fill;
+use super::words::is_invalid;
+use super::words::last_used;
+use super::words::low_bits;
+use super::words::rank_words;
+use super::words::skip_words;
+use super::words::window;
+use super::words::word_over;
+use super::words::words_for;
+use broadword::Found;
+use broadword::msb;
+use broadword::select_in_word;
+use errors::Refusal;
+
+// The bit at pos.
+pub fn access(words: &[u64], len: usize, pos: usize) -> Bit
+    ensures { λ r. ⌜ bitting r ≡ accessOf (now (words .entry)) len pos ⌝ }
+{
+    if is_invalid(words, len) {
+        return Bit::Refused(Refusal::InvalidBits);
+    }
+    if len <= pos {
+        return Bit::Nothing;
+    }
+    let at = pos / WORD_LEN;
+    let shift = pos % WORD_LEN;
+    Bit::Is((words[at] >> shift) % 2 == 1)
+}
+
+// The bits from pos on, as many as width says.
+pub fn get_bits(words: &[u64], len: usize, pos: usize, width: usize) -> Word
+    ensures { λ r. ⌜ wording r ≡ getBitsOf (now (words .entry)) len pos width ⌝ }
+{
+    if is_invalid(words, len) {
+        return Word::Refused(Refusal::InvalidBits);
+    }
+    if WORD_LEN < width {
+        return Word::Nothing;
+    }
+    if len < width {
+        return Word::Nothing;
+    }
+    if len - width < pos {
+        return Word::Nothing;
+    }
+    if width == 0 {
+        return Word::Value(0);
+    }
+    let used = words_for(len);
+    Word::Value(low_bits(window(words, used, pos), width))
+}
+
+// The 64 bits from pos on; those past the used words are 0.
+pub fn get_word64(words: &[u64], len: usize, pos: usize) -> Word
+    ensures { λ r. ⌜ wording r ≡ getWord64Of (now (words .entry)) len pos ⌝ }
+{
+    if is_invalid(words, len) {
+        return Word::Refused(Refusal::InvalidBits);
+    }
+    if len <= pos {
+        return Word::Nothing;
+    }
+    let used = words_for(len);
+    Word::Value(window(words, used, pos))
+}
+
+// The ones below pos.
+pub fn rank1(words: &[u64], len: usize, pos: usize) -> Count
+    ensures { λ r. ⌜ counting r ≡ rank1Of (now (words .entry)) len pos ⌝ }
+{
+    if is_invalid(words, len) {
+        return Count::Refused(Refusal::InvalidBits);
+    }
+    if len < pos {
+        return Count::Nothing;
+    }
+    Count::Ones(rank_words(words, pos))
+}
+
+// All the ones.
+pub fn num_ones(words: &[u64], len: usize) -> Count
+    ensures { λ r. ⌜ counting r ≡ numOnesOf (now (words .entry)) len ⌝ }
+{
+    if is_invalid(words, len) {
+        return Count::Refused(Refusal::InvalidBits);
+    }
+    Count::Ones(rank_words(words, len))
+}
+
+// The place of the one, or the zero, that k of its kind stand before.
+fn select_over(words: &[u64], len: usize, over_one: bool, k: usize) -> Place
+    ensures { λ r. ⌜ placing r ≡ selectOf (now (words .entry)) len «over_one» k ⌝ }
+{
+    if is_invalid(words, len) {
+        return Place::Refused(Refusal::InvalidBits);
+    }
+    let used = words_for(len);
+    let spot = skip_words(words, 0, used, over_one, k);
+    let at = spot.word;
+    let left = spot.left;
+    if at == used {
+        return Place::Nothing;
+    }
+    let Found::At(sel) = select_in_word(word_over(words, at, over_one), left) else {
+        return Place::Nothing;
+    };
+    let place = at * WORD_LEN + sel;
+    if place < len {
+        Place::At(place)
+    } else {
+        Place::Nothing
+    }
+}
+
+pub fn select1(words: &[u64], len: usize, k: usize) -> Place
+    ensures { λ r. ⌜ placing r ≡ selectOf (now (words .entry)) len true k ⌝ }
+{
+    select_over(words, len, true, k)
+}
+
+pub fn select0(words: &[u64], len: usize, k: usize) -> Place
+    ensures { λ r. ⌜ placing r ≡ selectOf (now (words .entry)) len false k ⌝ }
+{
+    select_over(words, len, false, k)
+}
+
+// The last one at or before pos.
+pub fn predecessor1(words: &[u64], len: usize, pos: usize) -> Place
+    ensures { λ r. ⌜ placing r ≡ predecessor1Of (now (words .entry)) len pos ⌝ }
+{
+    if is_invalid(words, len) {
+        return Place::Refused(Refusal::InvalidBits);
+    }
+    if len <= pos {
+        return Place::Nothing;
+    }
+    let at = pos / WORD_LEN;
+    let low = low_bits(words[at], pos % WORD_LEN + 1);
+    if let Found::At(bit) = msb(low) {
+        return Place::At(at * WORD_LEN + bit);
+    }
+    let n = last_used(words, at);
+    if n == 0 {
+        return Place::Nothing;
+    }
+    let i = n - 1;
+    if let Found::At(bit) = msb(words[i]) {
+        return Place::At(i * WORD_LEN + bit);
+    }
+    Place::Nothing
+}

@@ -82,3 +82,37 @@ select-some f (suc n) k b h = split (select-some f n k b) (decLt k (count f n))
     split : (k < count f n → (i : ℕ) × Selected f n k i) → Dec (k < count f n) → (i : ℕ) × Selected f (suc n) k i
     split ih (yes l) = let s = ih l in (s .0, record { within = omega (arith, s .1 .within); one = s .1 .one; before = s .1 .before })
     split ih (no g) = (n, record { within = lt-suc-self n; one = omega (arith, b n); before = omega (arith, b n) })
+
+-- what a last place says
+pub record LastAt (f : ℕ → ℕ) (n i : ℕ) : Type 0 where
+  pub within : i < n
+  pub one : f i ≡ 1
+  pub after : (j : ℕ) → i < j → j < n → f j ≡ 1 → ⊥
+
+pub last-is : (f : ℕ → ℕ) (n i : ℕ) → last f n ≡ At i → LastAt f n i
+unfolding last
+last-is f zero i e = let z : _≡_ {A = ℕ} 0 1 = cc in omega arith
+last-is f (suc n) i e = test (last-is f n i) (ℕ-discrete (f n) 1)
+  where
+    test : (last f n ≡ At i → LastAt f n i) → Dec (f n ≡ 1) → LastAt f (suc n) i
+    test ih (yes p) =
+        let r : n ≡ i = let h = rw (eq-eqb (f n) 1 p) at e in cc in
+        record { within = omega arith; one = ap f (sym r) ∙ p; after = λ j a b _. omega arith }
+    test ih (no p) =
+        let s = ih (rw (ne-eqb (f n) 1 p) at e) in
+        record {
+          within = omega (arith, s .within);
+          one = s .one;
+          after = λ j a b q. ⊎-elim (λ (g : j ≡ n). p (ap f (sym g) ∙ q)) (λ l. s .after j a l q) (eq-or-lt-of-le (le-of-suc-le-suc b));
+        }
+
+pub last-nothing : (f : ℕ → ℕ) (n : ℕ) → last f n ≡ Nothing → (j : ℕ) → j < n → f j ≡ 1 → ⊥
+unfolding last
+last-nothing f zero e j h q = not-suc-le-zero h
+last-nothing f (suc n) e j h q = test (last-nothing f n) (ℕ-discrete (f n) 1)
+  where
+    test : (last f n ≡ Nothing → (j : ℕ) → j < n → f j ≡ 1 → ⊥) → Dec (f n ≡ 1) → ⊥
+    test ih (yes p) = let h = rw (eq-eqb (f n) 1 p) at e in let z : _≡_ {A = ℕ} 0 1 = cc in omega arith
+    test ih (no p) =
+        let r = rw (ne-eqb (f n) 1 p) at e in
+        ⊎-elim (λ (g : j ≡ n). p (ap f (sym g) ∙ q)) (λ l. ih r j l q) (eq-or-lt-of-le (le-of-suc-le-suc h))

@@ -1,0 +1,125 @@
+-- The cases of each question's definition, one law to a case: the proofs cite them at each `return`. Assumes nothing.
+use mathlib.Core.Path.{_≡_, refl, sym, ap, _∙_}
+use mathlib.Core.List.{List}
+use mathlib.Core.Bool.{Bool, true, false}
+use Prim.Native.Nat.{ℕ, _+_, _-_, _*_, _/_, _%_, _^_, _≤_, _<_}
+use native.Mathlib.Omega.{arith}
+use borrow.Author.Tests.{le-ltb, lt-ltb, le-leb, lt-leb}
+use lib.Dec.{leb}
+use lib.ListN.{length, take}
+use Rattle.errors.specs.Answer.{Answer, value, none, refused, pick}
+use Rattle.broadword.specs.Bits.{count}
+use Rattle.broadword.specs.Fields.{word}
+use Rattle.broadword.specs.Places.{last, select}
+use Rattle.broadword.specs.declared.Found.{Found}
+use Rattle.bit_vectors.specs.Vector.{bitAt, bitOver, wordsFor, invalid}
+use Rattle.bit_vectors.specs.Queries.{foundAt, asked, accessOf, getBitsOf, getWord64Of, rank1Of, numOnesOf, selectOf, predecessor1Of}
+
+module _ (ws : List ℕ) (len : ℕ) where
+  asked-13 : (a : Answer) → invalid ws len ≡ true → asked ws len a ≡ refused 13
+  unfolding asked
+  asked-13 a e = ap (λ (t : Bool). pick t (refused 13) a) e
+
+  asked-ok : (a : Answer) → invalid ws len ≡ false → asked ws len a ≡ a
+  unfolding asked
+  asked-ok a e = ap (λ (t : Bool). pick t (refused 13) a) e
+
+  -- ---- access
+
+  pub access-13 : (pos : ℕ) → invalid ws len ≡ true → accessOf ws len pos ≡ refused 13
+  unfolding accessOf
+  access-13 pos e = asked-13 _ e
+
+  pub access-none : (pos : ℕ) → invalid ws len ≡ false → len ≤ pos → accessOf ws len pos ≡ none
+  unfolding accessOf
+  access-none pos e h = asked-ok _ e ∙ ap (λ (t : Bool). pick t (value (bitAt ws pos)) none) (le-ltb pos len h)
+
+  pub access-ok : (pos : ℕ) → invalid ws len ≡ false → pos < len → accessOf ws len pos ≡ value (bitAt ws pos)
+  unfolding accessOf
+  access-ok pos e h = asked-ok _ e ∙ ap (λ (t : Bool). pick t (value (bitAt ws pos)) none) (lt-ltb pos len h)
+
+  -- ---- get_bits
+
+  abbrev bits : ℕ → ℕ → ℕ
+  bits pos width = word 1 (λ i. bitAt ws (pos + i)) width
+
+  pub get-bits-13 : (pos width : ℕ) → invalid ws len ≡ true → getBitsOf ws len pos width ≡ refused 13
+  unfolding getBitsOf
+  get-bits-13 pos width e = asked-13 _ e
+
+  pub get-bits-wide : (pos width : ℕ) → invalid ws len ≡ false → 64 < width → getBitsOf ws len pos width ≡ none
+  unfolding getBitsOf
+  get-bits-wide pos width e h = asked-ok _ e ∙ ap (λ (t : Bool). pick t (pick (leb (pos + width) len) (value (bits pos width)) none) none) (lt-leb width 64 h)
+
+  pub get-bits-past : (pos width : ℕ) → invalid ws len ≡ false → width ≤ 64 → len < pos + width → getBitsOf ws len pos width ≡ none
+  unfolding getBitsOf
+  get-bits-past pos width e h l =
+      asked-ok _ e ∙ ap (λ (t : Bool). pick t (pick (leb (pos + width) len) (value (bits pos width)) none) none) (le-leb width 64 h)
+      ∙ ap (λ (t : Bool). pick t (value (bits pos width)) none) (lt-leb (pos + width) len l)
+
+  pub get-bits-ok : (pos width : ℕ) → invalid ws len ≡ false → width ≤ 64 → pos + width ≤ len → getBitsOf ws len pos width ≡ value (bits pos width)
+  unfolding getBitsOf
+  get-bits-ok pos width e h l =
+      asked-ok _ e ∙ ap (λ (t : Bool). pick t (pick (leb (pos + width) len) (value (bits pos width)) none) none) (le-leb width 64 h)
+      ∙ ap (λ (t : Bool). pick t (value (bits pos width)) none) (le-leb (pos + width) len l)
+
+  -- ---- get_word64
+
+  abbrev word64 : ℕ → ℕ
+  word64 pos = word 1 (λ i. bitAt (take (wordsFor len) ws) (pos + i)) 64
+
+  pub get-word64-13 : (pos : ℕ) → invalid ws len ≡ true → getWord64Of ws len pos ≡ refused 13
+  unfolding getWord64Of
+  get-word64-13 pos e = asked-13 _ e
+
+  pub get-word64-none : (pos : ℕ) → invalid ws len ≡ false → len ≤ pos → getWord64Of ws len pos ≡ none
+  unfolding getWord64Of
+  get-word64-none pos e h = asked-ok _ e ∙ ap (λ (t : Bool). pick t (value (word64 pos)) none) (le-ltb pos len h)
+
+  pub get-word64-ok : (pos : ℕ) → invalid ws len ≡ false → pos < len → getWord64Of ws len pos ≡ value (word64 pos)
+  unfolding getWord64Of
+  get-word64-ok pos e h = asked-ok _ e ∙ ap (λ (t : Bool). pick t (value (word64 pos)) none) (lt-ltb pos len h)
+
+  -- ---- rank1, num_ones
+
+  pub rank1-13 : (pos : ℕ) → invalid ws len ≡ true → rank1Of ws len pos ≡ refused 13
+  unfolding rank1Of
+  rank1-13 pos e = asked-13 _ e
+
+  pub rank1-none : (pos : ℕ) → invalid ws len ≡ false → len < pos → rank1Of ws len pos ≡ none
+  unfolding rank1Of
+  rank1-none pos e h = asked-ok _ e ∙ ap (λ (t : Bool). pick t (value (count (bitAt ws) pos)) none) (lt-leb pos len h)
+
+  pub rank1-ok : (pos : ℕ) → invalid ws len ≡ false → pos ≤ len → rank1Of ws len pos ≡ value (count (bitAt ws) pos)
+  unfolding rank1Of
+  rank1-ok pos e h = asked-ok _ e ∙ ap (λ (t : Bool). pick t (value (count (bitAt ws) pos)) none) (le-leb pos len h)
+
+  pub num-ones-13 : invalid ws len ≡ true → numOnesOf ws len ≡ refused 13
+  unfolding numOnesOf
+  num-ones-13 e = asked-13 _ e
+
+  pub num-ones-ok : invalid ws len ≡ false → numOnesOf ws len ≡ value (count (bitAt ws) len)
+  unfolding numOnesOf
+  num-ones-ok e = asked-ok _ e
+
+  -- ---- the selects and predecessor1
+
+  pub select-13 : (b : Bool) (k : ℕ) → invalid ws len ≡ true → selectOf ws len b k ≡ refused 13
+  unfolding selectOf
+  select-13 b k e = asked-13 _ e
+
+  pub select-ok : (b : Bool) (k : ℕ) (a : Found) → invalid ws len ≡ false → select (bitOver b ws) len k ≡ a → selectOf ws len b k ≡ foundAt a
+  unfolding selectOf
+  select-ok b k a e h = asked-ok _ e ∙ ap foundAt h
+
+  pub predecessor1-13 : (pos : ℕ) → invalid ws len ≡ true → predecessor1Of ws len pos ≡ refused 13
+  unfolding predecessor1Of
+  predecessor1-13 pos e = asked-13 _ e
+
+  pub predecessor1-past : (pos : ℕ) → invalid ws len ≡ false → len ≤ pos → predecessor1Of ws len pos ≡ none
+  unfolding predecessor1Of
+  predecessor1-past pos e h = asked-ok _ e ∙ ap (λ (t : Bool). pick t (foundAt (last (bitAt ws) (pos + 1))) none) (le-ltb pos len h)
+
+  pub predecessor1-ok : (pos : ℕ) (a : Found) → invalid ws len ≡ false → pos < len → last (bitAt ws) (pos + 1) ≡ a → predecessor1Of ws len pos ≡ foundAt a
+  unfolding predecessor1Of
+  predecessor1-ok pos a e h l = asked-ok _ e ∙ ap (λ (t : Bool). pick t (foundAt (last (bitAt ws) (pos + 1))) none) (lt-ltb pos len h) ∙ ap foundAt l
