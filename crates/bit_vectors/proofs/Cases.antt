@@ -1,19 +1,19 @@
 -- The cases of each question's definition, one law to a case: the proofs cite them at each `return`. Assumes nothing.
 use mathlib.Core.Path.{_≡_, refl, sym, ap, _∙_}
-use mathlib.Core.List.{List}
+use mathlib.Core.List.{List, _++_}
 use mathlib.Core.Bool.{Bool, true, false}
 use Prim.Native.Nat.{ℕ, _+_, _-_, _*_, _/_, _%_, _^_, _≤_, _<_}
 use native.Mathlib.Omega.{arith}
 use borrow.Author.Tests.{le-ltb, lt-ltb, le-leb, lt-leb}
 use lib.Dec.{leb}
-use lib.ListN.{length, take}
-use Rattle.errors.specs.Answer.{Answer, value, none, refused, pick}
+use lib.ListN.{length, getD, set, take, drop}
+use Rattle.errors.specs.Answer.{Answer, value, none, done, refused, Outcome, leaves, pick}
 use Rattle.broadword.specs.Bits.{count}
-use Rattle.broadword.specs.Fields.{word}
+use Rattle.broadword.specs.Fields.{flag, word}
 use Rattle.broadword.specs.Places.{last, select}
 use Rattle.broadword.specs.declared.Found.{Found}
-use Rattle.bit_vectors.specs.Vector.{bitAt, bitOver, wordsFor, invalid}
-use Rattle.bit_vectors.specs.Queries.{foundAt, asked, accessOf, getBitsOf, getWord64Of, rank1Of, numOnesOf, selectOf, predecessor1Of}
+use Rattle.bit_vectors.specs.Vector.{bitAt, bitOver, wordsFor, invalid, numberWords, putBit, appended}
+use Rattle.bit_vectors.specs.Queries.{foundAt, asked, accessOf, getBitsOf, getWord64Of, rank1Of, numOnesOf, selectOf, predecessor1Of, setBitOf, pushOf, fromBitOf}
 
 module _ (ws : List ℕ) (len : ℕ) where
   asked-13 : (a : Answer) → invalid ws len ≡ true → asked ws len a ≡ refused 13
@@ -123,3 +123,47 @@ module _ (ws : List ℕ) (len : ℕ) where
   pub predecessor1-ok : (pos : ℕ) (a : Found) → invalid ws len ≡ false → pos < len → last (bitAt ws) (pos + 1) ≡ a → predecessor1Of ws len pos ≡ foundAt a
   unfolding predecessor1Of
   predecessor1-ok pos a e h l = asked-ok _ e ∙ ap (λ (t : Bool). pick t (foundAt (last (bitAt ws) (pos + 1))) none) (lt-ltb pos len h) ∙ ap foundAt l
+
+-- ---- calls that alter words
+
+module _ (ws : List ℕ) (len : ℕ) where
+  pub set-bit-13 : (pos : ℕ) (b : Bool) → invalid ws len ≡ true → setBitOf ws len pos b ≡ leaves (refused 13) ws
+  unfolding setBitOf
+  set-bit-13 pos b e = simp e
+
+  pub set-bit-16 : (pos : ℕ) (b : Bool) → invalid ws len ≡ false → len ≤ pos → setBitOf ws len pos b ≡ leaves (refused 16) ws
+  unfolding setBitOf
+  set-bit-16 pos b e h = simp (e, le-ltb pos len h)
+
+  pub set-bit-ok : (pos : ℕ) (b : Bool) → invalid ws len ≡ false → pos < len → setBitOf ws len pos b ≡ leaves done (set ws (pos / 64) (putBit (getD ws (pos / 64) 0) (pos % 64) (flag b)))
+  unfolding setBitOf
+  set-bit-ok pos b e h = simp (e, lt-ltb pos len h)
+
+  module _ (bits width : ℕ) where
+    pub push-13 : invalid ws len ≡ true → pushOf ws len bits width ≡ leaves (refused 13) ws
+    unfolding pushOf
+    push-13 e = simp e
+
+    pub push-14 : invalid ws len ≡ false → 64 < width → pushOf ws len bits width ≡ leaves (refused 14) ws
+    unfolding pushOf
+    push-14 e h = simp (e, lt-ltb 64 width h)
+
+    pub push-15-long : invalid ws len ≡ false → width ≤ 64 → 2 ^ 64 ≤ len + width → pushOf ws len bits width ≡ leaves (refused 15) ws
+    unfolding pushOf
+    push-15-long e h l = simp (e, le-ltb 64 width h, le-leb (2 ^ 64) (len + width) l)
+
+    pub push-15-full : invalid ws len ≡ false → width ≤ 64 → len + width < 2 ^ 64 → length ws < wordsFor (len + width) → pushOf ws len bits width ≡ leaves (refused 15) ws
+    unfolding pushOf
+    push-15-full e h l f = simp (e, le-ltb 64 width h, lt-leb (2 ^ 64) (len + width) l, lt-ltb (length ws) (wordsFor (len + width)) f)
+
+    pub push-ok : invalid ws len ≡ false → width ≤ 64 → len + width < 2 ^ 64 → wordsFor (len + width) ≤ length ws → pushOf ws len bits width ≡ leaves (value (len + width)) (appended ws len (bits % 2 ^ width) width)
+    unfolding pushOf
+    push-ok e h l f = simp (e, le-ltb 64 width h, lt-leb (2 ^ 64) (len + width) l, le-ltb (length ws) (wordsFor (len + width)) f)
+
+  pub from-bit-13 : (b : Bool) → length ws < wordsFor len → fromBitOf b len ws ≡ leaves (refused 13) ws
+  unfolding fromBitOf
+  from-bit-13 b h = simp (lt-ltb (length ws) (wordsFor len) h)
+
+  pub from-bit-ok : (b : Bool) → wordsFor len ≤ length ws → fromBitOf b len ws ≡ leaves done (numberWords (wordsFor len) (flag b * (2 ^ len - 1)) ++ drop (wordsFor len) ws)
+  unfolding fromBitOf
+  from-bit-ok b h = simp (le-ltb (length ws) (wordsFor len) h)

@@ -1,9 +1,10 @@
 -- What the inner functions of `words` find, as facts. Assumes nothing.
 use mathlib.Core.Path.{_≡_}
 use mathlib.Core.List.{List}
-use Prim.Native.Nat.{ℕ, suc, _+_, _*_, _≤_, _<_}
-use lib.ListN.{getD}
+use Prim.Native.Nat.{ℕ, suc, _+_, _*_, _/_, _%_, _^_, _≤_, _<_}
+use lib.ListN.{length, getD}
 use Rattle.broadword.specs.Bits.{count}
+use Rattle.bit_vectors.specs.Vector.{wordsFor}
 
 -- from the word `first` on, k ones of f stand before the place that has `left` before it in the word `at`; `at` is `used` where there are fewer
 pub record Skipped (f : ℕ → ℕ) (first used k at left : ℕ) : Type 0 where
@@ -17,3 +18,11 @@ pub record Ending (ws : List ℕ) (end n : ℕ) : Type 0 where
   pub upto : n ≤ end
   pub zeros : (i : ℕ) → n ≤ i → i < end → getD ws i 0 ≡ 0
   pub some : (i : ℕ) → n ≡ suc i → getD ws i 0 ≡ 0 → ⊥
+
+-- some bits, fewer than 2 ^ width, fit above a length whose last word has nothing above it
+pub record Appendable (ws : List ℕ) (len x width : ℕ) : Type 0 where
+  pub some : 1 ≤ width
+  pub few : width ≤ 64
+  pub small : x < 2 ^ width
+  pub room : wordsFor (len + width) ≤ length ws
+  pub clear : (len % 64 ≡ 0 → ⊥) → getD ws (len / 64) 0 / 2 ^ (len % 64) ≡ 0

@@ -11,7 +11,7 @@ use Rattle.broadword.specs.Fields.{flag, word}
 use Rattle.broadword.specs.Places.{last, select}
 use Rattle.broadword.specs.declared.Found.{Found}
 use Rattle.broadword.specs.declared.Found.the-variants as found
-use Rattle.bit_vectors.specs.Vector.{bitAt, bitOver, wordsFor, invalid, numberWords}
+use Rattle.bit_vectors.specs.Vector.{bitAt, bitOver, wordsFor, invalid, numberWords, putBit, appended}
 use Rattle.bit_vectors.specs.declared.Altered.{Altered}
 use Rattle.bit_vectors.specs.declared.Altered.the-variants as altered
 use Rattle.bit_vectors.specs.declared.Pushed.{Pushed}
@@ -95,19 +95,16 @@ module _ (ws : List ℕ) (len : ℕ) where
   unfoldable pub setBitOf : ℕ → Bool → Outcome
   setBitOf pos b =
       pick (invalid ws len) (leaves (refused 13) ws)
-      (pick (ltb pos len)
-      (leaves done (set ws (pos / 64) (getD ws (pos / 64) 0 - bit (getD ws (pos / 64) 0) (pos % 64) * 2 ^ (pos % 64) + flag b * 2 ^ (pos % 64))))
-      (leaves (refused 16) ws))
+      (pick (ltb pos len) (leaves done (set ws (pos / 64) (putBit (getD ws (pos / 64) 0) (pos % 64) (flag b)))) (leaves (refused 16) ws))
 
-  -- the used words are one number, to which the pushed bits are added above the length
+  -- the lowest bits, as many as width says, are pushed
   unfoldable pub pushOf : ℕ → ℕ → Outcome
   pushOf bits width =
       pick (invalid ws len) (leaves (refused 13) ws)
       (pick (ltb 64 width) (leaves (refused 14) ws)
       (pick (leb (2 ^ 64) (len + width)) (leaves (refused 15) ws)
       (pick (ltb (length ws) (wordsFor (len + width))) (leaves (refused 15) ws)
-      (leaves (value (len + width))
-      (numberWords (wordsFor (len + width)) (word 64 (λ i. getD ws i 0) (wordsFor len) + bits % 2 ^ width * 2 ^ len) ++ drop (wordsFor (len + width)) ws)))))
+      (leaves (value (len + width)) (appended ws len (bits % 2 ^ width) width)))))
 
 -- the used words are written whole, as the words of 2 ^ len - 1 or of 0
 unfoldable pub fromBitOf : Bool → ℕ → List ℕ → Outcome

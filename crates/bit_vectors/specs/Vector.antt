@@ -1,11 +1,12 @@
 -- A bit vector is lent words and a length: its bits are those of the words at the places below the length. Assumes nothing.
-use mathlib.Core.List.{List, [], _∷_}
+use mathlib.Core.List.{List, [], _∷_, _++_}
 use mathlib.Core.Bool.{Bool, true, false, not}
 use Prim.Native.Nat.{ℕ, zero, suc, _+_, _-_, _*_, _/_, _%_, _^_}
 use lib.Dec.{eqb, ltb}
-use lib.ListN.{length, getD}
+use lib.ListN.{length, getD, drop}
 use Rattle.errors.specs.Answer.{pick}
 use Rattle.broadword.specs.Bits.{bit}
+use Rattle.broadword.specs.Fields.{word}
 
 -- the bit at the place i of the words
 unfoldable pub bitAt : List ℕ → ℕ → ℕ
@@ -37,3 +38,12 @@ numberWords (suc k) v = (v % 2 ^ 64) ∷ numberWords k (v / 2 ^ 64)
 abbrev pub wordOver : Bool → ℕ → ℕ
 wordOver true w = w
 wordOver false w = 2 ^ 64 - 1 - w
+
+-- the word w with b at the place i
+unfoldable pub putBit : ℕ → ℕ → ℕ → ℕ
+putBit w i b = w - bit w i * 2 ^ i + b * 2 ^ i
+
+-- the words after the width bits x are pushed: the used words are one number, to which x is added above the length
+unfoldable pub appended : List ℕ → ℕ → ℕ → ℕ → List ℕ
+appended ws len x width =
+    numberWords (wordsFor (len + width)) (word 64 (λ i. getD ws i 0) (wordsFor len) + x * 2 ^ len) ++ drop (wordsFor (len + width)) ws

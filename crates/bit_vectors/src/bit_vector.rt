@@ -15,13 +15,17 @@ use super::Place;
 use super::Pushed;
 use super::Word;
 use super::words::WORD_LEN;
+use super::words::append;
+use super::words::bit_word;
 use super::words::fill;
 use super::words::is_invalid;
 use super::words::last_used;
 use super::words::low_bits;
 use super::words::rank_words;
+use super::words::repeated;
 use super::words::skip_words;
 use super::words::window;
+use super::words::with_bit;
 use super::words::word_over;
 use super::words::words_for;
 use broadword::Found;
@@ -165,4 +169,70 @@ pub fn predecessor1(words: &[u64], len: usize, pos: usize) -> Place
         return Place::At(i * WORD_LEN + bit);
     }
     Place::Nothing
+}
+
+// The used words are written whole: `bit` at every place below len, and 0 past it.
+pub fn from_bit(bit: bool, len: usize, words: &mut [u64]) -> Altered
+    ensures { λ r. ⌜ leaves (altering r) (now (words .exit)) ≡ fromBitOf bit len (now (words .entry)) ⌝ }
+{
+    let used = words_for(len);
+    if words.len() < used {
+        return Altered::Refused(Refusal::InvalidBits);
+    }
+    let word = repeated(bit);
+    let whole = len / WORD_LEN;
+    fill(words, whole, word);
+    let left = len % WORD_LEN;
+    if left == 0 {
+        return Altered::Done;
+    }
+    words[whole] = low_bits(word, left);
+    Altered::Done
+}
+
+// The bit at pos is set to `bit`.
+pub fn set_bit(words: &mut [u64], len: usize, pos: usize, bit: bool) -> Altered
+    ensures { λ r. ⌜ leaves (altering r) (now (words .exit)) ≡ setBitOf (now (words .entry)) len pos bit ⌝ }
+{
+    if is_invalid(words, len) {
+        return Altered::Refused(Refusal::InvalidBits);
+    }
+    if len <= pos {
+        return Altered::Refused(Refusal::OutOfBounds);
+    }
+    let at = pos / WORD_LEN;
+    words[at] = with_bit(words[at], pos % WORD_LEN, bit);
+    Altered::Done
+}
+
+// The lowest bits of `bits`, as many as width says, are pushed at the end.
+pub fn push_bits(words: &mut [u64], len: usize, bits: u64, width: usize) -> Pushed
+    ensures { λ r. ⌜ leaves (pushing r) (now (words .exit)) ≡ pushOf (now (words .entry)) len bits width ⌝ }
+{
+    if is_invalid(words, len) {
+        return Pushed::Refused(Refusal::InvalidBits);
+    }
+    if WORD_LEN < width {
+        return Pushed::Refused(Refusal::WideBits);
+    }
+    if usize::MAX - len < width {
+        return Pushed::Refused(Refusal::NoRoom);
+    }
+    let end = len + width;
+    let used = words_for(end);
+    if words.len() < used {
+        return Pushed::Refused(Refusal::NoRoom);
+    }
+    if width == 0 {
+        return Pushed::Length(len);
+    }
+    append(words, len, low_bits(bits, width), width);
+    Pushed::Length(end)
+}
+
+// One bit is pushed at the end.
+pub fn push_bit(words: &mut [u64], len: usize, bit: bool) -> Pushed
+    ensures { λ r. ⌜ leaves (pushing r) (now (words .exit)) ≡ pushOf (now (words .entry)) len (flag bit) 1 ⌝ }
+{
+    push_bits(words, len, bit_word(bit), 1)
 }

@@ -2,13 +2,13 @@
 //
 // `words_for` and `is_invalid` take anything. The others are inner: each demands the words that it reads, as its `requires` says.
 ghost use mathlib.Core.Path.{_≡_};
-ghost use Prim.Native.Nat.{_+_, _*_, _/_, _%_, _^_, _<_, _≤_};
+ghost use Prim.Native.Nat.{_+_, _-_, _*_, _/_, _%_, _^_, _<_, _≤_};
 ghost use mathlib.Core.List.{_++_};
 ghost use lib.ListN.{length, getD, take, drop, replicate};
 ghost use Rattle.broadword.specs.Bits.{count};
-ghost use Rattle.broadword.specs.Fields.{word};
-ghost use Rattle.bit_vectors.specs.Vector.{bitAt, bitOver, wordsFor, invalid, wordOver};
-ghost use Rattle.bit_vectors.specs.Inner.{Skipped, Ending};
+ghost use Rattle.broadword.specs.Fields.{flag, word};
+ghost use Rattle.bit_vectors.specs.Vector.{bitAt, bitOver, wordsFor, invalid, wordOver, putBit, appended};
+ghost use Rattle.bit_vectors.specs.Inner.{Skipped, Ending, Appendable};
 use broadword::popcount;
 
 pub const WORD_LEN: usize = 64;
@@ -145,5 +145,44 @@ pub fn fill(words: &mut [u64], n: usize, x: u64)
     while i < n {
         words[i] = x;
         i += 1;
+    }
+}
+
+pub fn bit_word(bit: bool) -> u64
+    ensures { λ r. ⌜ r ≡ flag bit ⌝ }
+{
+    if bit { 1 } else { 0 }
+}
+
+// The word with `bit` at every place.
+pub fn repeated(bit: bool) -> u64
+    ensures { λ r. ⌜ r ≡ flag bit * (2 ^ 64 - 1) ⌝ }
+{
+    if bit { u64::MAX } else { 0 }
+}
+
+// The word with its bit at the place `shift` set to `bit`.
+pub fn with_bit(w: u64, shift: usize, bit: bool) -> u64
+    requires { ⌜ shift < 64 ⌝ }
+    ensures { λ r. ⌜ r ≡ putBit w shift (flag bit) ⌝ }
+{
+    (w & !(1 << shift)) | (bit_word(bit) << shift)
+}
+
+// The bits x, fewer than 2^width, are written from the place len on. A word that was not used is overwritten whole.
+pub fn append(words: &mut [u64], len: usize, x: u64, width: usize)
+    requires { ⌜ Appendable (now words) len x width ⌝ }
+    ensures { λ _. ⌜ now (words .exit) ≡ appended (now (words .entry)) len x width ⌝ }
+{
+    let at = len / WORD_LEN;
+    let shift = len % WORD_LEN;
+    let last = words[at];
+    if shift == 0 {
+        words[at] = x;
+        return;
+    }
+    words[at] = last | (x << shift);
+    if WORD_LEN - shift < width {
+        words[at + 1] = x >> (WORD_LEN - shift);
     }
 }
