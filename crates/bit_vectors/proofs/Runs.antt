@@ -134,7 +134,7 @@ module _ (b : Bool) (ws : List ℕ) (fit : Fit ws) where
 -- ---- a rank: whole words, and the low bits of one
 
 -- a bit below those of a number shifted up
-bit-under : (w s j : ℕ) → j < s → bit (w * 2 ^ s) j ≡ 0
+pub bit-under : (w s j : ℕ) → j < s → bit (w * 2 ^ s) j ≡ 0
 unfolding bit
 bit-under w s j h =
     let d = le-dest h in
