@@ -14,14 +14,15 @@ use lib.Pow.{pow-pos, pow-add, pow-mono, ones-lt, shr-shr, split}
 use lib.Seq.{getD-take, length-take-le}
 use Rattle.broadword.specs.Bits.{bit, count, ones}
 use Rattle.broadword.specs.Places.{select}
+use Rattle.broadword.specs.declared.Found.{Found}
 use Rattle.broadword.specs.declared.Found.the-variants.{At, Nothing}
 use Rattle.broadword.proofs.Count.{bit-le, bit-above, bit-shift, count-add, count-zero, count-same, count-mono}
-use Rattle.broadword.proofs.Find.{Selected, selected, select-at, select-none}
+use Rattle.broadword.proofs.Find.{Selected, selected, select-at, select-none, select-some}
 use Rattle.broadword.proofs.Lowest.{odd-times, bit-one, none-below, short}
 use Rattle.bit_vectors.specs.Vector.{bitAt, bitOver, wordOver, wordsFor, invalid}
-use Rattle.bit_vectors.specs.Inner.{Skipped}
+use Rattle.bit_vectors.specs.Inner.{Skipped, placeIn}
 use Rattle.bit_vectors.specs.Walk.{restOf, Ahead}
-use Rattle.bit_vectors.proofs.Runs.{Fit, wordOver-lt, getD-past, bit-under, bitAt-word, bitOver-word, count-word, over-next, select-few, select-in, select-there}
+use Rattle.bit_vectors.proofs.Runs.{Fit, left-lt, wordOver-lt, getD-past, bit-under, bitAt-word, bitOver-word, count-word, over-next}
 use Rattle.bit_vectors.proofs.Valid.{Valid, valid}
 
 -- ---- the bits of a word from the place s on
@@ -218,15 +219,11 @@ module _ (ws : List ℕ) (len from at : ℕ) (fit : Fit ws) (v : Valid ws len) w
               ap (λ (y : ℕ). y * 2 ^ (t + 1)) high ∙ ap (λ (k : ℕ). w / 2 ^ k * 2 ^ k) (sym q) ∙ sym (rest-is ws len (v .room) at (at * 64 + t) (at * 64 + t + 1) (omega arith) in-used),
             )
 
--- ---- a skip
+-- ---- a search
 
--- too few
-pub few-ones : (x k : ℕ) → select (bit x) 64 k ≡ Nothing → ones x 64 ≤ k
-few-ones x k e = go (decLt k (ones x 64))
-  where
-    go : Dec (k < ones x 64) → ones x 64 ≤ k
-    go (yes l) = absurd (select-there x k l e)
-    go (no g) = omega (arith, lt-of-not-le g)
+-- a word with more than k ones has the place
+select-found : (x k : ℕ) → k < ones x 64 → (t : ℕ) × (select (bit x) 64 k ≡ At t)
+select-found x k h = let s = select-some (bit x) 64 k (bit-le x) h in (s .0, select-at (bit x) 64 k (s .0) (s .1 .within) (s .1 .one) (s .1 .before))
 
 -- what is left of the word of `from`, as the program computes it
 pub shifted-rest : (w s : ℕ) → w < 2 ^ 64 → (w / 2 ^ s * 2 ^ s) % 2 ^ 64 ≡ w / 2 ^ s * 2 ^ s
@@ -257,9 +254,25 @@ module _ (b : Bool) (ws : List ℕ) (fit : Fit ws) where
         let r = rest-at b ws fit from (from / 64) (omega arith) (omega arith) k t (ap (λ (y : ℕ). select (bit y) 64 k) (sym masked) ∙ e) in
         (r .0, r .1, r .2)
 
-    -- and on from the next word
-    pub skipped : (k p i left : ℕ) → p ≡ ones x 64 → ones x 64 ≤ k → count (bitOver b ws) (i * 64) + left ≡ count (bitOver b ws) ((from / 64 + 1) * 64) + (k - p) → count (bitOver b ws) (i * 64) + left ≡ count (bitOver b ws) from + k
-    skipped k p i left ep h e = let o = first-over in omega arith
+    -- the place in it, and that of a word after it
+    pub find-first : (used k : ℕ) (a : Found) → from / 64 < used → k < ones x 64 → a ≡ select (bit x) 64 k → placeIn (from / 64) a ≡ select (bitOver b ws) (used * 64) (count (bitOver b ws) from + k)
+    find-first used k a u h ea =
+        let t = select-found x k h in
+        let r = first-at k (t .0) (t .1) in
+        ap (placeIn (from / 64)) (ea ∙ t .1) ∙ sym (select-at (bitOver b ws) (used * 64) (count (bitOver b ws) from + k) (from / 64 * 64 + t .0) (let l = r .0 in omega arith) (r .1) (r .2))
+
+    module _ (used k p i left : ℕ) (ep : p ≡ ones x 64) (h : p ≤ k) (s : Skipped (bitOver b ws) (from / 64 + 1) used (k - p) i left) where
+      total : count (bitOver b ws) (i * 64) + left ≡ count (bitOver b ws) from + k
+      total = let o = first-over in let e = s .before in omega arith
+
+      pub find-none : i ≡ used → Nothing ≡ select (bitOver b ws) (used * 64) (count (bitOver b ws) from + k)
+      find-none e = sym (select-none (bitOver b ws) (used * 64) (count (bitOver b ws) from + k) (let t = total in subst (λ (n : ℕ). count (bitOver b ws) (n * 64) ≤ count (bitOver b ws) from + k) e (omega arith)))
+
+      pub find-word : (y : ℕ) (a : Found) → y ≡ wordOver b (getD ws i 0) → i < used → a ≡ select (bit y) 64 left → placeIn i a ≡ select (bitOver b ws) (used * 64) (count (bitOver b ws) from + k)
+      find-word y a ey u ea =
+          let t = select-found y left (left-lt b ws fit i left y ey (s .here u)) in
+          let r = word-at i left y (t .0) ey (t .1) in
+          ap (placeIn i) (ea ∙ t .1) ∙ sym (select-at (bitOver b ws) (used * 64) (count (bitOver b ws) from + k) (i * 64 + t .0) (let l = r .0 in omega arith) (r .1) (r .2 ∙ total))
 
   -- the program's shifts give that word
   pub first-is : (from y : ℕ) → y ≡ wordOver b (getD ws (from / 64) 0) → (y / 2 ^ (from % 64) * 2 ^ (from % 64)) % 2 ^ 64 ≡ wordOver b (getD ws (from / 64) 0) / 2 ^ (from % 64) * 2 ^ (from % 64)

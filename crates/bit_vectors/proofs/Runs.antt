@@ -3,7 +3,8 @@ use mathlib.Core.Path.{_≡_, refl, sym, ap, ap₂, _∙_, subst, subst⁻¹}
 use mathlib.Core.List.{List, [], _∷_}
 use mathlib.Core.Bool.{Bool, true, false}
 use Prim.Native.Nat.{ℕ, zero, suc, _+_, _-_, _*_, _/_, _%_, _^_, _≤_, _<_}
-use native.Mathlib.Nat.{le-of-eq, le-dest, mul-assoc, mul-div-cancel, pow-suc, zero-add, not-suc-le-zero, le-refl, lt-of-lt-of-le, le-of-suc-le-suc, mul-one, mod-eq-of-lt, div-add-mod', le-trans}
+use native.Mathlib.Nat.{lt-of-not-le, le-of-eq, le-dest, mul-assoc, mul-div-cancel, pow-suc, zero-add, not-suc-le-zero, le-refl, lt-of-lt-of-le, le-of-suc-le-suc, mul-one, mod-eq-of-lt, div-add-mod', le-trans}
+use native.Mathlib.Decide.{decLt}
 use native.Mathlib.Omega.{arith}
 use lib.ListN.{length, getD, take}
 use lib.Seq.{getD-take}
@@ -101,14 +102,6 @@ module _ (f W : ℕ → ℕ) (by-word : (i j : ℕ) → j < 64 → f (i * 64 + j
   pub count-next : (i : ℕ) → count f ((i + 1) * 64) ≡ count f (i * 64) + ones (W i) 64
   count-next i = let e : (i + 1) * 64 ≡ i * 64 + 64 = omega arith in ap (count f) e ∙ count-word i 64 (le-refl 64)
 
-  -- the one that k ones stand before is the one of the word i that k less the count before the word stand before
-  pub select-word : (i k s n : ℕ) → count f (i * 64) ≤ k → select (bit (W i)) 64 (k - count f (i * 64)) ≡ At s → i * 64 + s < n → select f n k ≡ At (i * 64 + s)
-  select-word i k s n h e l =
-      let r = selected (bit (W i)) 64 (k - count f (i * 64)) s e in
-      let w : s < 64 = r .within in
-      let c : count f (i * 64) + ones (W i) s ≡ k = omega (arith, r .before) in
-      select-at f n k (i * 64 + s) l (by-word i s w ∙ r .one) (count-word i s (omega arith) ∙ c)
-
 -- ---- what a turn over a word adds, for the ones (true) or the zeros (false)
 
 module _ (b : Bool) (ws : List ℕ) (fit : Fit ws) where
@@ -122,11 +115,6 @@ module _ (b : Bool) (ws : List ℕ) (fit : Fit ws) where
   -- fewer than the ones of the word i, which is x
   pub left-lt : (i left x : ℕ) → x ≡ wordOver b (getD ws i 0) → count (bitOver b ws) (i * 64) + left < count (bitOver b ws) ((i + 1) * 64) → left < ones x 64
   left-lt i left x ex h = let t = turn i x (ones x 64) ex refl in omega arith
-
-  -- counted from the first word
-  pub from-first : (n left k : ℕ) → count (bitOver b ws) n + left ≡ count (bitOver b ws) 0 + k → count (bitOver b ws) n + left ≡ k
-  unfolding count
-  from-first n left k e = e ∙ zero-add k
 
   pub over-le : (n : ℕ) → count (bitOver b ws) n ≤ n
   over-le n = count-le (bitOver b ws) n (bitOver-le b ws)
@@ -169,34 +157,35 @@ module _ (ws : List ℕ) (r p pos : ℕ) where
 pub rank-le : (ws : List ℕ) (n : ℕ) → count (bitAt ws) n ≤ n
 rank-le ws n = count-le (bitAt ws) n (bitAt-le ws)
 
--- ---- a select by words, for the ones (true) or the zeros (false)
+-- ---- a select in more places
 
-module _ (b : Bool) (ws : List ℕ) (fit : Fit ws) (k n : ℕ) where
-  -- too few
-  pub select-few : (m : ℕ) → n ≤ m → count (bitOver b ws) m ≤ k → select (bitOver b ws) n k ≡ Nothing
-  select-few m h l = select-none (bitOver b ws) n k (le-trans (count-mono (bitOver b ws) n m h) l)
+module _ (f : ℕ → ℕ) (bits : (i : ℕ) → f i ≤ 1) (m n k : ℕ) where
+  pub narrow-in : (p : ℕ) → select f m k ≡ At p → p < n → select f n k ≡ At p
+  narrow-in p e l = let r = selected f m k p e in select-at f n k p l (r .one) (r .before)
 
-  -- at the place s of the word i, which is x, with `left` ones of it before
-  module _ (i left x s : ℕ) (ex : x ≡ wordOver b (getD ws i 0)) (before : count (bitOver b ws) (i * 64) + left ≡ k) (e : select (bit x) 64 left ≡ At s) where
-    in-word : select (bit (wordOver b (getD ws i 0))) 64 (k - count (bitOver b ws) (i * 64)) ≡ At s
-    in-word = let d : k - count (bitOver b ws) (i * 64) ≡ left = omega arith in ap₂ (λ (y m : ℕ). select (bit y) 64 m) (sym ex) d ∙ e
+  pub narrow-past : (p : ℕ) → select f m k ≡ At p → n ≤ p → select f n k ≡ Nothing
+  narrow-past p e h = select-none f n k (le-trans (count-mono f n p h) (le-of-eq (selected f m k p e .before)))
 
-    pub select-lt : s < 64
-    select-lt = selected (bit x) 64 left s e .within
+  pub select-few : select f m k ≡ Nothing → count f m ≤ k
+  select-few e = go (decLt k (count f m))
+    where
+      go : Dec (k < count f m) → count f m ≤ k
+      go (yes l) =
+          let s = select-some f m k bits l in
+          let a = select-at f m k (s .0) (s .1 .within) (s .1 .one) (s .1 .before) in
+          let z : _≡_ {A = ℕ} 0 1 = cc in
+          absurd (omega arith)
+      go (no g) = omega (arith, lt-of-not-le g)
 
-    pub select-in : i * 64 + s < n → select (bitOver b ws) n k ≡ At (i * 64 + s)
-    select-in = select-word (bitOver b ws) (λ i. wordOver b (getD ws i 0)) (bitOver-word b ws fit) i k s n (omega arith) in-word
+  pub narrow-none : select f m k ≡ Nothing → n ≤ m → select f n k ≡ Nothing
+  narrow-none e h = select-none f n k (le-trans (count-mono f n m h) (select-few e))
 
-    pub select-past : n ≤ i * 64 + s → select (bitOver b ws) n k ≡ Nothing
-    select-past h =
-        let m : ℕ = i * 64 + s in
-        let r = selected (bitOver b ws) (m + 1) k m (select-word (bitOver b ws) (λ i. wordOver b (getD ws i 0)) (bitOver-word b ws fit) i k s (m + 1) (omega arith) in-word (omega arith)) in
-        select-few m h (le-of-eq (r .before))
+-- counted from the first place
+pub from-first : (f : ℕ → ℕ) (k : ℕ) → count f 0 + k ≡ k
+unfolding count
+from-first f k = zero-add k
 
--- a word with more than `left` ones has the place
-pub select-there : (x left : ℕ) → left < ones x 64 → select (bit x) 64 left ≡ Nothing → ⊥
-select-there x left h e =
-    let s = select-some (bit x) 64 left (bit-le x) h in
-    let a = select-at (bit x) 64 left (s .0) (s .1 .within) (s .1 .one) (s .1 .before) in
-    let z : _≡_ {A = ℕ} 0 1 = cc in
-    omega arith
+-- in no place
+pub select-empty : (f : ℕ → ℕ) (n k : ℕ) → n ≡ 0 → select f n k ≡ Nothing
+unfolding select
+select-empty f n k e = ap (λ (m : ℕ). select f m k) e

@@ -4,6 +4,9 @@ use mathlib.Core.List.{List}
 use Prim.Native.Nat.{ℕ, suc, _+_, _*_, _/_, _%_, _^_, _≤_, _<_}
 use lib.ListN.{length, getD}
 use Rattle.broadword.specs.Bits.{count}
+use Rattle.broadword.specs.Places.{SelectInByte}
+use Rattle.broadword.specs.declared.Found.{Found}
+use Rattle.broadword.specs.declared.Found.the-variants as found
 use Rattle.bit_vectors.specs.Vector.{wordsFor}
 
 -- from the word `first` on, k ones of f stand before the place that has `left` before it in the word `at`; `at` is `used` where there are fewer
@@ -26,3 +29,19 @@ pub record Appendable (ws : List ℕ) (len x width : ℕ) : Type 0 where
   pub small : x < 2 ^ width
   pub room : wordsFor (len + width) ≤ length ws
   pub clear : (len % 64 ≡ 0 → ⊥) → getD ws (len / 64) 0 / 2 ^ (len % 64) ≡ 0
+
+-- a place in a word
+abbrev pub Within : Found → Type 0
+Within f = (t : ℕ) → f ≡ found.At t → t < 64
+
+-- as a place in the words, in the word i
+abbrev pub placeIn : ℕ → Found → Found
+placeIn i (found.At t) = found.At (i * 64 + t)
+placeIn i found.Nothing = found.Nothing
+
+-- the words and the table that a search from a place on reads
+pub record Findable (ws : List ℕ) (used from : ℕ) (table : List ℕ) : Type 0 where
+  pub start : from / 64 < used
+  pub room : used ≤ length ws
+  pub few : used ≤ 2 ^ 58
+  pub rule : SelectInByte table

@@ -18,19 +18,18 @@ use super::words::WORD_LEN;
 use super::words::append;
 use super::words::bit_word;
 use super::words::fill;
+use super::words::find_from;
 use super::words::is_invalid;
 use super::words::last_used;
 use super::words::low_bits;
 use super::words::rank_words;
 use super::words::repeated;
-use super::words::skip_words;
 use super::words::window;
 use super::words::with_bit;
-use super::words::word_over;
 use super::words::words_for;
 use broadword::Found;
 use broadword::msb;
-use broadword::select_in_word;
+use broadword::select_in_byte_table;
 use errors::Refusal;
 
 // The bit at pos.
@@ -115,17 +114,14 @@ fn select_over(words: &[u64], len: usize, over_one: bool, k: usize) -> Place
     if is_invalid(words, len) {
         return Place::Refused(Refusal::InvalidBits);
     }
-    let used = words_for(len);
-    let spot = skip_words(words, 0, used, over_one, k);
-    let at = spot.word;
-    let left = spot.left;
-    if at == used {
+    if len == 0 {
         return Place::Nothing;
     }
-    let Found::At(sel) = select_in_word(word_over(words, at, over_one), left) else {
+    let used = words_for(len);
+    let table = select_in_byte_table();
+    let Found::At(place) = find_from(words, used, over_one, &table, 0, k) else {
         return Place::Nothing;
     };
-    let place = at * WORD_LEN + sel;
     if place < len {
         Place::At(place)
     } else {

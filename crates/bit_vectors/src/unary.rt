@@ -13,14 +13,12 @@ ghost use Rattle.bit_vectors.specs.Inner.{Skipped};
 ghost use Rattle.bit_vectors.specs.Walk.{starting, stepping, newOf, stepOf, nextOf, skip1Of, skip0Of, Walking, Ahead, stopAt};
 use super::Place;
 use super::words::WORD_LEN;
+use super::words::find_from;
 use super::words::is_invalid;
-use super::words::skip_words;
-use super::words::word_over;
 use super::words::words_for;
 use broadword::Found;
 use broadword::lsb;
-use broadword::popcount;
-use broadword::select_in_word;
+use broadword::select_in_byte_table;
 use errors::Refusal;
 
 pub struct Unary {
@@ -203,23 +201,12 @@ fn skip_over(words: &[u64], len: usize, w: Unary, over_one: bool, k: usize) -> S
     if len <= from {
         return ended(len);
     }
-    let at = from / WORD_LEN;
-    let shift = from % WORD_LEN;
-    let first = (word_over(words, at, over_one) >> shift) << shift;
-    if let Found::At(bit) = select_in_word(first, k) {
-        return stop(words, len, at * WORD_LEN + bit);
-    }
     let used = words_for(len);
-    let spot = skip_words(words, at + 1, used, over_one, k - popcount(first));
-    let word = spot.word;
-    let left = spot.left;
-    if word == used {
-        return ended(len);
-    }
-    let Found::At(bit) = select_in_word(word_over(words, word, over_one), left) else {
+    let table = select_in_byte_table();
+    let Found::At(place) = find_from(words, used, over_one, &table, from, k) else {
         return ended(len);
     };
-    stop(words, len, word * WORD_LEN + bit)
+    stop(words, len, place)
 }
 
 pub fn skip1(words: &[u64], len: usize, w: Unary, k: usize) -> Stepped

@@ -6,10 +6,13 @@ ghost use Prim.Native.Nat.{_+_, _-_, _*_, _/_, _%_, _^_, _<_, _≤_};
 ghost use mathlib.Core.List.{_++_};
 ghost use lib.ListN.{length, getD, take, drop, replicate};
 ghost use Rattle.broadword.specs.Bits.{count};
+ghost use Rattle.broadword.specs.Places.{select};
 ghost use Rattle.broadword.specs.Fields.{flag, word};
 ghost use Rattle.bit_vectors.specs.Vector.{bitAt, bitOver, wordsFor, invalid, wordOver, putBit, appended};
-ghost use Rattle.bit_vectors.specs.Inner.{Skipped, Ending, Appendable};
+ghost use Rattle.bit_vectors.specs.Inner.{Skipped, Ending, Appendable, Within, placeIn, Findable};
+use broadword::Found;
 use broadword::popcount;
+use broadword::select_in_word_by;
 
 pub const WORD_LEN: usize = 64;
 
@@ -118,6 +121,48 @@ pub fn skip_words(words: &[u64], first: usize, used: usize, over_one: bool, k: u
         word += 1;
     }
     Spot { word, left }
+}
+
+// A place in the word i, as a place in the words.
+fn place_in(i: usize, found: Found) -> Found
+    requires { ⌜ ((i < 2 ^ 58) × Within found) ⌝ }
+    ensures { λ r. ⌜ r ≡ placeIn i found ⌝ }
+{
+    match found {
+        Found::At(bit) => Found::At(i * WORD_LEN + bit),
+        Found::Nothing => Found::Nothing,
+    }
+}
+
+// The place of the one, or the zero, that k of its kind stand before from the place `from` on, in the first `used` words.
+pub fn find_from(
+    words: &[u64],
+    used: usize,
+    over_one: bool,
+    table: &[u8; 2048],
+    from: usize,
+    k: usize,
+) -> Found
+    requires { ⌜ Findable (now words) used from (now table) ⌝ }
+    ensures { λ r. ⌜ r ≡ select (bitOver «over_one» (now (words .entry))) (used * 64) (count (bitOver «over_one» (now (words .entry))) from + k) ⌝ }
+{
+    let at = from / WORD_LEN;
+    let shift = from % WORD_LEN;
+    let first = (word_over(words, at, over_one) >> shift) << shift;
+    let ones = popcount(first);
+    if k < ones {
+        return place_in(at, select_in_word_by(table, first, k));
+    }
+    let spot = skip_words(words, at + 1, used, over_one, k - ones);
+    let word = spot.word;
+    let left = spot.left;
+    if word == used {
+        return Found::Nothing;
+    }
+    place_in(
+        word,
+        select_in_word_by(table, word_over(words, word, over_one), left),
+    )
 }
 
 // How many of the first `end` words there are up to the last that is not 0.
