@@ -1,0 +1,4 @@
+pub mod Positions
+pub mod Index
+pub mod Queries
+pub mod Rows

@@ -1,0 +1,2 @@
+// Constant-time select on bit vectors by an index over their ones or their zeros.
+pub mod inner;
