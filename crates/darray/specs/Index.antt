@@ -29,22 +29,18 @@ module _ (P : List ℕ) where
 
   -- "if last minus first is below 65,536" the block j is not wide
   unfoldable pub wide : ℕ → Bool
-  unfolding pos size
   wide j = leb 65536 (pos (1024 * j + (size j - 1)) - pos (1024 * j))
 
   -- "otherwise all its positions go to the overflow list": how many of the block j do
   unfoldable pub spill : ℕ → ℕ
-  unfolding size wide
   spill j = pick (wide j) (size j) 0
 
   -- how many of the blocks before j do
   unfoldable pub before : ℕ → ℕ
-  unfolding spill
   before j = count spill j
 
   -- "the block's entry is its first position", or the two's complement of e with "overflow place -e - 1"
   unfoldable pub entry : ℕ → ℕ
-  unfolding pos wide before
   entry j = pick (wide j) (2 ^ 64 - (before j + 1)) (pos (1024 * j))
 
   -- "every 32nd position has a 16-bit distance": how many
@@ -53,25 +49,20 @@ module _ (P : List ℕ) where
 
   -- the distance of the position 32 i from the first of its block, or 65,535 in a wide one; "unused lanes zero"
   unfoldable pub lane : ℕ → ℕ
-  unfolding pos wide lanes
   lane i = pick (ltb i lanes) (pick (wide (i / 32)) 65535 (pos (32 * i) - pos (1024 * (i / 32)))) 0
 
   -- "four to a word from the low end"
   unfoldable pub laneWord : ℕ → ℕ
-  unfolding lane
   laneWord t = word 16 (λ i. lane (4 * t + i)) 4
 
   unfoldable pub laneWords : ℕ
-  unfolding lanes
   laneWords = (lanes + 3) / 4
 
   -- the overflow positions of the blocks before j
   unfoldable pub overflow : ℕ → List ℕ
-  unfolding pos spill
   overflow zero = []
   overflow (suc j) = overflow j ++ table (λ i. pos (1024 * j + i)) (spill j)
 
   -- "block entries (two's complement), 16-bit lanes four to a word from the low end with unused lanes zero, overflow positions"
   unfoldable pub indexWords : List ℕ
-  unfolding blocks entry laneWord laneWords overflow
-  indexWords = table entry blocks ++ table laneWord laneWords ++ overflow blocks
+  indexWords = table entry blocks ++ (table laneWord laneWords ++ overflow blocks)
