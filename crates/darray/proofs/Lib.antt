@@ -1,2 +1,3 @@
 pub mod Positions
 pub mod Index
+pub mod Scan
