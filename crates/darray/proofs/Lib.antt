@@ -1,3 +1,4 @@
 pub mod Positions
 pub mod Index
 pub mod Scan
+pub mod Blocks

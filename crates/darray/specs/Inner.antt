@@ -1,11 +1,15 @@
 -- What the functions inside the crate demand and hand back. A run f of bits is that of the ones or the zeros of a bit vector's words.
 -- Assumes nothing.
 use mathlib.Core.Path.{_≡_}
+use mathlib.Core.List.{List}
 use Prim.Native.Nat.{ℕ, _+_, _-_, _*_, _^_, _≤_, _<_, min}
+use lib.ListN.{length}
 use Rattle.broadword.specs.Bits.{count}
 use Rattle.darray.specs.declared.inner.Cursor.{Cursor}
 use Rattle.darray.specs.declared.inner.Hit.{Hit}
 use Rattle.darray.specs.declared.inner.Span.{Span}
+use Rattle.darray.specs.declared.inner.Sizes.{Sizes}
+use Rattle.darray.specs.Index.{blocks, lanes, before}
 
 -- i is the position of f with the number k
 pub record Position (f : ℕ → ℕ) (k i : ℕ) : Type 0 where
@@ -39,3 +43,10 @@ pub record Spans (f : ℕ → ℕ) (n j : ℕ) (s : Span) : Type 0 where
   pub last : Position f (lastOf n j) (s .last)
   pub from : Ahead f (s .from) (1024 * j)
   pub next : Ahead f (s .next) (lastOf n j)
+
+-- the sizes of the index of P
+pub record Sized (P : List ℕ) (s : Sizes) : Type 0 where
+  pub positions : s .positions ≡ length P
+  pub entries : s .entries ≡ blocks P
+  pub lanes : s .lanes ≡ lanes P
+  pub overflow : s .overflow ≡ before P (blocks P)

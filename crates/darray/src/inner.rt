@@ -8,11 +8,16 @@ ghost use lib.ListN.{length, getD};
 ghost use Rattle.broadword.specs.Bits.{bit, count, ones};
 ghost use Rattle.broadword.specs.Places.{SelectInByte};
 ghost use Rattle.bit_vectors.specs.Vector.{wordsFor, bitOver, wordOver};
-ghost use Rattle.darray.specs.Inner.{Ahead, Inside, Hits, Spans};
+ghost use Rattle.errors.specs.Answer.{pick};
+ghost use Rattle.darray.specs.Positions.{positions};
+ghost use Rattle.darray.specs.Queries.{measuring, measureOf};
+ghost use Rattle.darray.specs.Inner.{lastOf, Ahead, Inside, Hits, Spans, Sized};
 use bit_vectors::words::WORD_LEN;
+use bit_vectors::words::is_invalid;
 use bit_vectors::words::word_over;
 use broadword::Found;
 use broadword::popcount;
+use broadword::select_in_byte_table;
 use broadword::select_in_word_by;
 use errors::Refusal;
 
@@ -23,7 +28,10 @@ pub const BLOCK_LEN: usize = 1024;
 pub const SUBBLOCK_LEN: usize = 32;
 
 // A block whose last position lies this far from its first overflows.
-pub const MAX_IN_BLOCK_DISTANCE: usize = 65536;
+pub const MAX_IN_BLOCK_DISTANCE: u64 = 1 << 16;
+
+// No memory holds as many bits.
+const MAX_LEN: usize = 1 << 63;
 
 // How many positions are indexed, and how many entries, distances and overflow positions the index has.
 pub struct Sizes {
@@ -119,4 +127,86 @@ fn find(table: &[u8; 2048], words: &[u64], over_one: bool, from: Cursor, k: usiz
         },
         Found::Nothing => Hit { at: 0, cursor: c },
     }
+}
+
+// The number of positions in a block.
+fn block_size(n: usize, block: usize) -> usize
+    requires { ⌜ 1024 * block ≤ n ⌝ }
+    ensures { λ r. ⌜ r ≡ min 1024 (n - 1024 * block) ⌝ }
+{
+    let left = n - BLOCK_LEN * block;
+    if left < BLOCK_LEN { left } else { BLOCK_LEN }
+}
+
+// Whether a block with these ends overflows.
+fn is_wide(first: u64, last: u64) -> bool
+    requires { ⌜ first ≤ last ⌝ }
+    ensures { λ r. ⌜ r ≡ leb 65536 (last - first) ⌝ }
+{
+    last - first >= MAX_IN_BLOCK_DISTANCE
+}
+
+// How many of its positions go to the overflow.
+fn spilled(first: u64, last: u64, size: usize) -> usize
+    requires { ⌜ first ≤ last ⌝ }
+    ensures { λ r. ⌜ r ≡ pick (leb 65536 (last - first)) size 0 ⌝ }
+{
+    if is_wide(first, last) { size } else { 0 }
+}
+
+// The ends of a block of n positions.
+fn ends(table: &[u8; 2048], words: &[u64], over_one: bool, n: usize, block: usize, from: Cursor) -> Span
+    requires { ⌜ (SelectInByte (now table) × Ahead (bitOver «over_one» (now words)) from (1024 * block) × Inside (bitOver «over_one» (now words)) (length (now words)) (lastOf n block) × (1024 * block < n)) ⌝ }
+    ensures { λ r. ⌜ Spans (bitOver «over_one» (now (words .entry))) n block r ⌝ }
+{
+    let k = BLOCK_LEN * block;
+    let a = find(table, words, over_one, from, k);
+    let from = a.cursor;
+    let b = find(table, words, over_one, from, k + (block_size(n, block) - 1));
+    let next = b.cursor;
+    Span {
+        first: a.at,
+        last: b.at,
+        from,
+        next,
+    }
+}
+
+// The sizes of the index.
+fn sizes_of(words: &[u64], len: usize, over_one: bool) -> Sizes
+    requires { ⌜ ((wordsFor len ≤ length (now words)) × (len < 2 ^ 63)) ⌝ }
+    ensures { λ r. ⌜ Sized (positions «over_one» (now (words .entry)) len) r ⌝ }
+{
+    let table = select_in_byte_table();
+    let n = count_positions(words, len, over_one);
+    let blocks = (n + (BLOCK_LEN - 1)) / BLOCK_LEN;
+    let mut overflow: usize = 0;
+    let mut at = Cursor { word: 0, before: 0 };
+    let mut j: usize = 0;
+    while j < blocks {
+        let s = ends(&table, words, over_one, n, j, at);
+        overflow += spilled(s.first, s.last, block_size(n, j));
+        let next = s.next;
+        at = next;
+        j += 1;
+    }
+    Sizes {
+        positions: n,
+        entries: blocks,
+        lanes: (n + (SUBBLOCK_LEN - 1)) / SUBBLOCK_LEN,
+        overflow,
+    }
+}
+
+// The sizes of the index over the ones or the zeros of a bit vector.
+pub fn measure(words: &[u64], len: usize, over_one: bool) -> Measured
+    ensures { λ r. ⌜ measuring r ≡ measureOf (now (words .entry)) len «over_one» ⌝ }
+{
+    if is_invalid(words, len) {
+        return Measured::Refused(Refusal::InvalidBits);
+    }
+    if len >= MAX_LEN {
+        return Measured::Refused(Refusal::TooMany);
+    }
+    Measured::Sizes(sizes_of(words, len, over_one))
 }
