@@ -155,7 +155,14 @@ fn spilled(first: u64, last: u64, size: usize) -> usize
 }
 
 // The ends of a block of n positions.
-fn ends(table: &[u8; 2048], words: &[u64], over_one: bool, n: usize, block: usize, from: Cursor) -> Span
+fn ends(
+    table: &[u8; 2048],
+    words: &[u64],
+    over_one: bool,
+    n: usize,
+    block: usize,
+    from: Cursor,
+) -> Span
     requires { ⌜ (SelectInByte (now table) × Ahead (bitOver «over_one» (now words)) from (1024 * block) × Inside (bitOver «over_one» (now words)) (length (now words)) (lastOf n block) × (1024 * block < n)) ⌝ }
     ensures { λ r. ⌜ Spans (bitOver «over_one» (now (words .entry))) n block r ⌝ }
 {

@@ -51,10 +51,10 @@ returns c =
     let e : 1024 * a .block + (c .before .before .block-size .result - 1) ≡ lastOf (a .n) (a .block) = ap (λ (s : ℕ). 1024 * a .block + (s - 1)) (c .before .before .block-size .ensures) in
     let h = subst (λ (k : ℕ). Hits (bitOver (a .over-one) (a .words .now)) k (c .before .find2 .result)) e (c .before .find2 .ensures) in
     record {
-      first = c .before .before .before .before .find .ensures .position
-      ; last = h .position
-      ; from = c .before .before .before .before .find .ensures .ahead
-      ; next = h .ahead
+      first = c .before .before .before .before .find .ensures .position;
+      last = h .position;
+      from = c .before .before .before .before .find .ensures .ahead;
+      next = h .ahead;
     }
 
 pub ends-spec : {M : Type 1} → statement M

@@ -61,9 +61,12 @@ ends-requires c κs =
     let a = c .before .before .before .before .before .before .args in
     let p = c .before .before .before .before .before .before .pre in
     let j = c .before .before .loop .j in
-    let h : 1024 * j < c .before .before .before .count-positions .result = omega (arith, c .before .loop-test .taken) in
-    (c .before .before .before .before .select-in-byte-table .ensures, c .before .before .loop .inv .2,
-    block.inside (a .over-one) (a .words .now) (a .len) (c .before .before .before .count-positions .result) (c .before .before .before .count-positions .ensures) _ _ (omega (arith, p .0)) (p .1) (omega arith), h)
+    let h : 1024 * j < c .before .before .before .count-positions .result = omega (arith, c .before .loop-test .taken) in (
+      c .before .before .before .before .select-in-byte-table .ensures,
+      c .before .before .loop .inv .2,
+      block.inside (a .over-one) (a .words .now) (a .len) (c .before .before .before .count-positions .result) (c .before .before .before .count-positions .ensures) _ _ (omega (arith, p .0)) (p .1) (omega arith),
+      h,
+    )
 
 -- src/inner.rt:188:46
 block-size-requires : tie.Need-block-size-requires Inv-loop μ-loop
@@ -91,8 +94,8 @@ next-before c =
     let P = positions (a .over-one) (a .words .now) (a .len) in
     let s = c .before .before .ends .result in
     let e : c .spilled .result ≡ spill P (l .j) =
-        c .spilled .ensures ∙ ap (λ (z : ℕ). pick (leb 65536 (s .last - s .first)) z 0) (c .before .block-size .ensures)
-        ∙ block.spill-is (a .over-one) (a .words .now) (a .len) (n .result) (n .ensures) (l .j) s (there (c .before .before .before .before)) (c .before .before .ends .ensures) in
+    c .spilled .ensures ∙ ap (λ (z : ℕ). pick (leb 65536 (s .last - s .first)) z 0) (c .before .block-size .ensures)
+    ∙ block.spill-is (a .over-one) (a .words .now) (a .len) (n .result) (n .ensures) (l .j) s (there (c .before .before .before .before)) (c .before .before .ends .ensures) in
     ap₂ (λ (x y : ℕ). x + y) (l .inv .1) e ∙ sym (ap (before P) (add-one (l .j)) ∙ index.before-next P (l .j))
 
 -- src/inner.rt:188:9
@@ -113,10 +116,11 @@ loop-less c = omega (arith, c .before .before .before .before .before .loop-test
 
 -- src/inner.rt:186:5
 loop-again : tie.Need-loop-again Inv-loop μ-loop
-loop-again c =
-    (omega (arith, c .before .before .before .before .before .loop-test .taken),
-    next-before (c .before),
-    block.ahead-le _ _ _ _ (omega arith) (c .before .before .before .ends .ensures .next))
+loop-again c = (
+  omega (arith, c .before .before .before .before .before .loop-test .taken),
+  next-before (c .before),
+  block.ahead-le _ _ _ _ (omega arith) (c .before .before .before .ends .ensures .next),
+)
 
 -- src/inner.rt:196:22
 sub-t13 : tie.Need-sub-t13 Inv-loop μ-loop
