@@ -13,9 +13,9 @@ use Rattle.bit_vectors.specs.Vector.{bitOver}
 use Rattle.bit_vectors.proofs.Runs.{bitOver-le}
 use Rattle.darray.specs.Positions.{places, positions}
 use Rattle.darray.specs.Index.{pos, size, wide, spill}
-use Rattle.darray.specs.Inner.{Position, Ahead, Inside, Spans, lastOf}
-use Rattle.darray.specs.declared.inner.Cursor.{Cursor}
-use Rattle.darray.specs.declared.inner.Span.{Span}
+use Rattle.darray.specs.Scan.{Position, Ahead, Inside, Spans, lastOf}
+use Rattle.darray.specs.declared.scan.Cursor.{Cursor}
+use Rattle.darray.specs.declared.scan.Span.{Span}
 use Rattle.darray.proofs.Positions as places
 use Rattle.darray.proofs.Index as index
 

@@ -11,7 +11,7 @@ use Rattle.bit_vectors.specs.Vector.{invalid}
 use Rattle.darray.specs.Positions.{positions}
 use Rattle.darray.specs.Index.{blocks, lanes, overflow, indexWords}
 use Rattle.darray.specs.Queries.{Measure, sizes, unmeasured, measuring, measureOf, buildOf, validateOf, same}
-use Rattle.darray.specs.Inner.{Sized}
+use Rattle.darray.specs.Scan.{Sized}
 use Rattle.darray.specs.declared.inner.Sizes.{Sizes}
 use Rattle.darray.specs.declared.inner.Measured.the-variants as measured
 use Rattle.darray.proofs.Index.{length-overflow}

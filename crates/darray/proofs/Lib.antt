@@ -1,5 +1,5 @@
 pub mod Positions
 pub mod Index
-pub mod Scan
+pub mod Counts
 pub mod Blocks
 pub mod Cases

@@ -1,5 +1,5 @@
 pub mod Positions
 pub mod Index
-pub mod Inner
+pub mod Scan
 pub mod Queries
 pub mod Rows

@@ -2,23 +2,19 @@
 // distances of every 32nd position four to a word (subblock_inventory), and the positions of the blocks that are too wide for
 // distances of 16 bits (overflow_positions).
 ghost use mathlib.Core.Path.{_≡_};
-ghost use Prim.Native.Nat.{ℕ, _+_, _-_, _*_, _/_, _^_, _≤_, _<_, min};
-ghost use lib.Dec.{leb};
-ghost use lib.ListN.{length, getD};
-ghost use Rattle.broadword.specs.Bits.{bit, count, ones};
-ghost use Rattle.broadword.specs.Places.{SelectInByte};
-ghost use Rattle.bit_vectors.specs.Vector.{wordsFor, bitOver, wordOver};
-ghost use Rattle.errors.specs.Answer.{pick};
+ghost use Prim.Native.Nat.{_^_, _≤_, _<_};
+ghost use lib.ListN.{length};
+ghost use Rattle.bit_vectors.specs.Vector.{wordsFor};
 ghost use Rattle.darray.specs.Positions.{positions};
 ghost use Rattle.darray.specs.Queries.{measuring, measureOf};
-ghost use Rattle.darray.specs.Inner.{lastOf, Ahead, Inside, Hits, Spans, Sized};
-use bit_vectors::words::WORD_LEN;
+ghost use Rattle.darray.specs.Scan.{Sized};
+use crate::scan::Cursor;
+use crate::scan::block_size;
+use crate::scan::count_positions;
+use crate::scan::ends;
+use crate::scan::spilled;
 use bit_vectors::words::is_invalid;
-use bit_vectors::words::word_over;
-use broadword::Found;
-use broadword::popcount;
 use broadword::select_in_byte_table;
-use broadword::select_in_word_by;
 use errors::Refusal;
 
 // Positions in a block.
@@ -56,127 +52,6 @@ pub enum Built {
 pub enum Validated {
     Is(bool),
     Refused(Refusal),
-}
-
-// A word, and how many positions stand before it.
-struct Cursor {
-    word: usize,
-    before: usize,
-}
-
-// A position, and a cursor at its word.
-struct Hit {
-    at: u64,
-    cursor: Cursor,
-}
-
-// The ends of a block, and cursors at their words.
-struct Span {
-    first: u64,
-    last: u64,
-    from: Cursor,
-    next: Cursor,
-}
-
-// The number of positions: those of each whole word, and those of the used part of the last.
-fn count_positions(words: &[u64], len: usize, over_one: bool) -> usize
-    requires { ⌜ wordsFor len ≤ length (now words) ⌝ }
-    ensures { λ r. ⌜ r ≡ count (bitOver «over_one» (now (words .entry))) len ⌝ }
-{
-    let whole = len / WORD_LEN;
-    let mut n: usize = 0;
-    let mut i: usize = 0;
-    while i < whole {
-        n += popcount(word_over(words, i, over_one));
-        i += 1;
-    }
-    let left = len % WORD_LEN;
-    if left == 0 {
-        return n;
-    }
-    n + popcount(word_over(words, whole, over_one) % (1u64 << left))
-}
-
-// A cursor at the word of the position with the number k.
-fn advance(words: &[u64], over_one: bool, from: Cursor, k: usize) -> Cursor
-    requires { ⌜ (Ahead (bitOver «over_one» (now words)) from k × Inside (bitOver «over_one» (now words)) (length (now words)) k) ⌝ }
-    ensures { λ r. ⌜ (Ahead (bitOver «over_one» (now (words .entry))) r k × (r .word < length (now (words .entry))) × (k < r .before + ones (wordOver «over_one» (getD (now (words .entry)) (r .word) 0)) 64)) ⌝ }
-{
-    let mut word = from.word;
-    let mut before = from.before;
-    let mut n = popcount(word_over(words, word, over_one));
-    while n <= k - before {
-        before += n;
-        word += 1;
-        n = popcount(word_over(words, word, over_one));
-    }
-    Cursor { word, before }
-}
-
-// The position with the number k.
-fn find(table: &[u8; 2048], words: &[u64], over_one: bool, from: Cursor, k: usize) -> Hit
-    requires { ⌜ (SelectInByte (now table) × Ahead (bitOver «over_one» (now words)) from k × Inside (bitOver «over_one» (now words)) (length (now words)) k) ⌝ }
-    ensures { λ r. ⌜ Hits (bitOver «over_one» (now (words .entry))) k r ⌝ }
-{
-    let c = advance(words, over_one, from, k);
-    let w = word_over(words, c.word, over_one);
-    match select_in_word_by(table, w, k - c.before) {
-        Found::At(s) => Hit {
-            at: (c.word * WORD_LEN + s) as u64,
-            cursor: c,
-        },
-        Found::Nothing => Hit { at: 0, cursor: c },
-    }
-}
-
-// The number of positions in a block.
-fn block_size(n: usize, block: usize) -> usize
-    requires { ⌜ 1024 * block ≤ n ⌝ }
-    ensures { λ r. ⌜ r ≡ min 1024 (n - 1024 * block) ⌝ }
-{
-    let left = n - BLOCK_LEN * block;
-    if left < BLOCK_LEN { left } else { BLOCK_LEN }
-}
-
-// Whether a block with these ends overflows.
-fn is_wide(first: u64, last: u64) -> bool
-    requires { ⌜ first ≤ last ⌝ }
-    ensures { λ r. ⌜ r ≡ leb 65536 (last - first) ⌝ }
-{
-    last - first >= MAX_IN_BLOCK_DISTANCE
-}
-
-// How many of its positions go to the overflow.
-fn spilled(first: u64, last: u64, size: usize) -> usize
-    requires { ⌜ first ≤ last ⌝ }
-    ensures { λ r. ⌜ r ≡ pick (leb 65536 (last - first)) size 0 ⌝ }
-{
-    if is_wide(first, last) { size } else { 0 }
-}
-
-// The ends of a block of n positions.
-fn ends(
-    table: &[u8; 2048],
-    words: &[u64],
-    over_one: bool,
-    n: usize,
-    block: usize,
-    from: Cursor,
-) -> Span
-    requires { ⌜ (SelectInByte (now table) × Ahead (bitOver «over_one» (now words)) from (1024 * block) × Inside (bitOver «over_one» (now words)) (length (now words)) (lastOf n block) × (1024 * block < n)) ⌝ }
-    ensures { λ r. ⌜ Spans (bitOver «over_one» (now (words .entry))) n block r ⌝ }
-{
-    let k = BLOCK_LEN * block;
-    let a = find(table, words, over_one, from, k);
-    let from = a.cursor;
-    let b = find(table, words, over_one, from, k + (block_size(n, block) - 1));
-    let next = b.cursor;
-    Span {
-        first: a.at,
-        last: b.at,
-        from,
-        next,
-    }
 }
 
 // The sizes of the index.

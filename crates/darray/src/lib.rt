@@ -1,2 +1,3 @@
 // Constant-time select on bit vectors by an index over their ones or their zeros.
 pub mod inner;
+mod scan;

@@ -11,19 +11,19 @@ use Rattle.broadword.specs.Bits.{count}
 use Rattle.bit_vectors.specs.Vector.{bitOver}
 use Rattle.darray.specs.Positions.{positions}
 use Rattle.darray.specs.Index.{blocks, before, lanes, spill}
-use Rattle.darray.specs.Inner.{Ahead, Inside, lastOf}
+use Rattle.darray.specs.Scan.{Ahead, Inside, lastOf}
 use Rattle.darray.proofs.Blocks as block
 use Rattle.darray.proofs.Index as index
-use Rattle.darray.proofs.Scan as scan
+use Rattle.darray.proofs.Counts as scan
 use Rattle.darray.proofs.inner.sizes_of.Statement.{statement}
 use Rattle.darray.proofs.inner.sizes_of.Tie as tie
 use Rattle.darray.proofs.inner.sizes_of.Reads as reads
 use Rattle.darray.proofs.inner.sizes_of.Lts as lts
 use Rattle.broadword.proofs.select_in_byte_table.Reads as select-in-byte-table-reads
-use Rattle.darray.proofs.inner.block_size.Reads as block-size-reads
-use Rattle.darray.proofs.inner.count_positions.Reads as count-positions-reads
-use Rattle.darray.proofs.inner.ends.Reads as ends-reads
-use Rattle.darray.proofs.inner.spilled.Reads as spilled-reads
+use Rattle.darray.proofs.scan.block_size.Reads as block-size-reads
+use Rattle.darray.proofs.scan.count_positions.Reads as count-positions-reads
+use Rattle.darray.proofs.scan.ends.Reads as ends-reads
+use Rattle.darray.proofs.scan.spilled.Reads as spilled-reads
 
 abbrev Inv-loop : tie.InvT-loop
 Inv-loop words len over-one table n blocks overflow₀ at₀ j₀ overflow at j =

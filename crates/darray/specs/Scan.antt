@@ -5,9 +5,9 @@ use mathlib.Core.List.{List}
 use Prim.Native.Nat.{ℕ, _+_, _-_, _*_, _^_, _≤_, _<_, min}
 use lib.ListN.{length}
 use Rattle.broadword.specs.Bits.{count}
-use Rattle.darray.specs.declared.inner.Cursor.{Cursor}
-use Rattle.darray.specs.declared.inner.Hit.{Hit}
-use Rattle.darray.specs.declared.inner.Span.{Span}
+use Rattle.darray.specs.declared.scan.Cursor.{Cursor}
+use Rattle.darray.specs.declared.scan.Hit.{Hit}
+use Rattle.darray.specs.declared.scan.Span.{Span}
 use Rattle.darray.specs.declared.inner.Sizes.{Sizes}
 use Rattle.darray.specs.Index.{blocks, lanes, before}
 

@@ -1,4 +1,4 @@
--- `darray::inner::advance` meets its contract: the invariant says that `before` is the count below the word, and n the word's ones.
+-- `darray::scan::advance` meets its contract: the invariant says that `before` is the count below the word, and n the word's ones.
 -- Assumes nothing.
 use borrow.Author.Needs.{needs}
 use mathlib.Core.Path.{_≡_, ap, _∙_, subst}
@@ -7,11 +7,11 @@ use native.Mathlib.Omega.{arith}
 use lib.ListN.{length, getD}
 use Rattle.broadword.specs.Bits.{count, ones}
 use Rattle.bit_vectors.specs.Vector.{bitOver, wordOver}
-use Rattle.darray.proofs.Scan as scan
-use Rattle.darray.proofs.inner.advance.Statement.{statement}
-use Rattle.darray.proofs.inner.advance.Tie as tie
-use Rattle.darray.proofs.inner.advance.Reads as reads
-use Rattle.darray.proofs.inner.advance.Lts as lts
+use Rattle.darray.proofs.Counts as scan
+use Rattle.darray.proofs.scan.advance.Statement.{statement}
+use Rattle.darray.proofs.scan.advance.Tie as tie
+use Rattle.darray.proofs.scan.advance.Reads as reads
+use Rattle.darray.proofs.scan.advance.Lts as lts
 use Rattle.bit_vectors.proofs.words.word_over.Reads as word-over-reads
 use Rattle.broadword.proofs.popcount.Reads as popcount-reads
 

@@ -1,4 +1,4 @@
--- `darray::inner::find` meets its contract: the word at which `advance` stops has the position.
+-- `darray::scan::find` meets its contract: the word at which `advance` stops has the position.
 -- Assumes nothing.
 use borrow.Author.Needs.{needs}
 use mathlib.Core.Path.{_≡_, sym, ap, _∙_}
@@ -8,15 +8,15 @@ use Rattle.broadword.specs.Bits.{bit}
 use Rattle.broadword.specs.Places.{select}
 use Rattle.broadword.specs.declared.Found.the-variants.{At, Nothing}
 use Rattle.bit_vectors.specs.Vector.{bitOver}
-use Rattle.darray.specs.Inner.{Position}
-use Rattle.darray.proofs.Scan as scan
-use Rattle.darray.proofs.inner.find.Statement.{statement}
-use Rattle.darray.proofs.inner.find.Tie as tie
-use Rattle.darray.proofs.inner.find.Reads as reads
-use Rattle.darray.proofs.inner.find.Lts as lts
+use Rattle.darray.specs.Scan.{Position}
+use Rattle.darray.proofs.Counts as scan
+use Rattle.darray.proofs.scan.find.Statement.{statement}
+use Rattle.darray.proofs.scan.find.Tie as tie
+use Rattle.darray.proofs.scan.find.Reads as reads
+use Rattle.darray.proofs.scan.find.Lts as lts
 use Rattle.bit_vectors.proofs.words.word_over.Reads as word-over-reads
 use Rattle.broadword.proofs.select_in_word_by.Reads as select-in-word-by-reads
-use Rattle.darray.proofs.inner.advance.Reads as advance-reads
+use Rattle.darray.proofs.scan.advance.Reads as advance-reads
 
 -- src/inner.rt:114:9
 advance-requires : tie.Need-advance-requires

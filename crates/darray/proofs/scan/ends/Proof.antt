@@ -1,18 +1,18 @@
--- `darray::inner::ends` meets its contract.
+-- `darray::scan::ends` meets its contract.
 -- Assumes nothing.
 use borrow.Author.Needs.{needs}
 use mathlib.Core.Path.{_≡_, sym, ap, _∙_, subst}
 use Prim.Native.Nat.{ℕ, _+_, _-_, _*_, _≤_, _<_, min}
 use native.Mathlib.Omega.{arith}
 use Rattle.bit_vectors.specs.Vector.{bitOver}
-use Rattle.darray.specs.Inner.{Position, Ahead, Hits, lastOf}
+use Rattle.darray.specs.Scan.{Position, Ahead, Hits, lastOf}
 use Rattle.darray.proofs.Blocks as blocks
-use Rattle.darray.proofs.inner.ends.Statement.{statement}
-use Rattle.darray.proofs.inner.ends.Tie as tie
-use Rattle.darray.proofs.inner.ends.Reads as reads
-use Rattle.darray.proofs.inner.ends.Lts as lts
-use Rattle.darray.proofs.inner.block_size.Reads as block-size-reads
-use Rattle.darray.proofs.inner.find.Reads as find-reads
+use Rattle.darray.proofs.scan.ends.Statement.{statement}
+use Rattle.darray.proofs.scan.ends.Tie as tie
+use Rattle.darray.proofs.scan.ends.Reads as reads
+use Rattle.darray.proofs.scan.ends.Lts as lts
+use Rattle.darray.proofs.scan.block_size.Reads as block-size-reads
+use Rattle.darray.proofs.scan.find.Reads as find-reads
 
 -- src/inner.rt:162:13
 mul-k : tie.Need-mul-k

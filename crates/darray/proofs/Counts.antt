@@ -15,8 +15,8 @@ use Rattle.broadword.proofs.Count.{bit-le, bit-above, bit-mod, count-add, count
 use Rattle.broadword.proofs.Find.{selected, select-at, select-some}
 use Rattle.bit_vectors.specs.Vector.{bitOver, wordOver}
 use Rattle.bit_vectors.proofs.Runs.{Fit, bitOver-le, bitOver-word, count-word, count-next}
-use Rattle.darray.specs.declared.inner.Cursor.{Cursor}
-use Rattle.darray.specs.Inner.{Position, Ahead, Inside}
+use Rattle.darray.specs.declared.scan.Cursor.{Cursor}
+use Rattle.darray.specs.Scan.{Position, Ahead, Inside}
 use Rattle.darray.proofs.Positions.{below}
 
 -- the ones of the n low bits

@@ -1,4 +1,4 @@
--- `darray::inner::count_positions` meets its contract: the invariant says that n is the count below the word i.
+-- `darray::scan::count_positions` meets its contract: the invariant says that n is the count below the word i.
 -- Assumes nothing.
 use borrow.Author.Needs.{needs}
 use mathlib.Core.Path.{_≡_, refl, ap, ap₂, _∙_}
@@ -8,11 +8,11 @@ use lib.ListN.{getD}
 use lib.Pow.{pow-pos}
 use Rattle.broadword.specs.Bits.{bit, count, ones}
 use Rattle.bit_vectors.specs.Vector.{bitOver}
-use Rattle.darray.proofs.Scan as scan
-use Rattle.darray.proofs.inner.count_positions.Statement.{statement}
-use Rattle.darray.proofs.inner.count_positions.Tie as tie
-use Rattle.darray.proofs.inner.count_positions.Reads as reads
-use Rattle.darray.proofs.inner.count_positions.Lts as lts
+use Rattle.darray.proofs.Counts as scan
+use Rattle.darray.proofs.scan.count_positions.Statement.{statement}
+use Rattle.darray.proofs.scan.count_positions.Tie as tie
+use Rattle.darray.proofs.scan.count_positions.Reads as reads
+use Rattle.darray.proofs.scan.count_positions.Lts as lts
 use Rattle.bit_vectors.proofs.words.word_over.Reads as word-over-reads
 use Rattle.broadword.proofs.popcount.Reads as popcount-reads
 

@@ -1,15 +1,15 @@
--- `darray::inner::spilled` meets its contract.
+-- `darray::scan::spilled` meets its contract.
 -- Assumes nothing.
 use borrow.Author.Needs.{needs}
 use mathlib.Core.Path.{_≡_, sym, ap, _∙_}
 use mathlib.Core.Bool.{Bool}
 use Prim.Native.Nat.{ℕ}
 use Rattle.errors.specs.Answer.{pick}
-use Rattle.darray.proofs.inner.spilled.Statement.{statement}
-use Rattle.darray.proofs.inner.spilled.Tie as tie
-use Rattle.darray.proofs.inner.spilled.Reads as reads
-use Rattle.darray.proofs.inner.spilled.Lts as lts
-use Rattle.darray.proofs.inner.is_wide.Reads as is-wide-reads
+use Rattle.darray.proofs.scan.spilled.Statement.{statement}
+use Rattle.darray.proofs.scan.spilled.Tie as tie
+use Rattle.darray.proofs.scan.spilled.Reads as reads
+use Rattle.darray.proofs.scan.spilled.Lts as lts
+use Rattle.darray.proofs.scan.is_wide.Reads as is-wide-reads
 
 -- src/inner.rt:154:8
 is-wide-requires : tie.Need-is-wide-requires
