@@ -75,3 +75,7 @@ module _ (b : Bool) (ws : List ℕ) (fit : Fit ws) (c : Cursor) (k : ℕ) (a : A
 -- a position that is inside lies below 2^63
 pub position-lt : (f : ℕ → ℕ) (m k i : ℕ) → Inside f m k → Position f k i → i < 2 ^ 63
 position-lt f m k i n p = lt-of-lt-of-le (below f i (n .bits) (omega (arith, p .before, n .there))) (n .few)
+
+-- nor does the word of a position that is inside
+pub word-le : (f : ℕ → ℕ) (m k i : ℕ) → count f (i * 64) ≤ k → Inside f m k → i * 64 ≤ 2 ^ 63
+word-le f m k i h n = le-of-lt (lt-of-lt-of-le (below f (i * 64) (n .bits) (omega (arith, n .there))) (n .few))

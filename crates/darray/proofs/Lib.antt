@@ -2,4 +2,6 @@ pub mod Positions
 pub mod Index
 pub mod Counts
 pub mod Blocks
+pub mod Clear
+pub mod Taking
 pub mod Cases
