@@ -4,4 +4,5 @@ pub mod Counts
 pub mod Blocks
 pub mod Clear
 pub mod Taking
+pub mod Flush
 pub mod Cases
