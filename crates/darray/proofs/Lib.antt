@@ -6,3 +6,5 @@ pub mod Clear
 pub mod Taking
 pub mod Flush
 pub mod Cases
+pub mod Signed
+pub mod Through

@@ -4,3 +4,4 @@ pub mod Scan
 pub mod Pending
 pub mod Queries
 pub mod Rows
+pub mod Select

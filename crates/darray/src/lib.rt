@@ -2,3 +2,4 @@
 pub mod inner;
 mod pending;
 mod scan;
+pub mod select;
