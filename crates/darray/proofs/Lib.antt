@@ -5,4 +5,5 @@ pub mod Blocks
 pub mod Clear
 pub mod Taking
 pub mod Flush
+pub mod Building
 pub mod Cases

@@ -2,12 +2,19 @@
 // distances of every 32nd position four to a word (subblock_inventory), and the positions of the blocks that are too wide for
 // distances of 16 bits (overflow_positions).
 ghost use mathlib.Core.Path.{_≡_};
-ghost use Prim.Native.Nat.{_^_, _≤_, _<_};
-ghost use lib.ListN.{length};
+ghost use mathlib.Core.List.{_++_};
+ghost use Prim.Native.Nat.{_+_, _/_, _^_, _≤_, _<_};
+ghost use lib.ListN.{length, drop};
 ghost use Rattle.bit_vectors.specs.Vector.{wordsFor};
 ghost use Rattle.darray.specs.Positions.{positions};
+ghost use Rattle.darray.specs.Index.{indexWords};
 ghost use Rattle.darray.specs.Queries.{measuring, measureOf};
-ghost use Rattle.darray.specs.Scan.{Sized};
+ghost use Rattle.darray.specs.Scan.{Sized, Writable};
+use crate::pending::empty;
+use crate::pending::fill;
+use crate::pending::flush;
+use crate::pending::spill;
+use crate::pending::start;
 use crate::scan::Cursor;
 use crate::scan::block_size;
 use crate::scan::count_positions;
@@ -77,6 +84,38 @@ fn sizes_of(words: &[u64], len: usize, over_one: bool) -> Sizes
         entries: blocks,
         lanes: (n + (SUBBLOCK_LEN - 1)) / SUBBLOCK_LEN,
         overflow,
+    }
+}
+
+// How many words the index has.
+fn total(s: Sizes) -> usize
+    requires { ⌜ ((s .lanes + 3 < 2 ^ 64) × (s .entries + (s .lanes + 3) / 4 + s .overflow < 2 ^ 64)) ⌝ }
+    ensures { λ r. ⌜ r ≡ s .entries + (s .lanes + 3) / 4 + s .overflow ⌝ }
+{
+    s.entries + (s.lanes + 3) / 4 + s.overflow
+}
+
+// Writes the index of the bits, whose sizes are s, block by block.
+fn write(words: &[u64], len: usize, over_one: bool, s: Sizes, out: &mut [u64])
+    requires { ⌜ Writable (positions «over_one» (now words) len) len (length (now words)) s (length (now out)) ⌝ }
+    ensures { λ _. ⌜ now (out .exit) ≡ indexWords (positions «over_one» (now (words .entry)) len) ++ drop (length (indexWords (positions «over_one» (now (words .entry)) len))) (now (out .entry)) ⌝ }
+{
+    let n = s.positions;
+    let blocks = s.entries;
+    let over_start = blocks + (s.lanes + 3) / 4;
+    let mut p = empty();
+    let mut from = start(words, over_one);
+    let mut over: usize = 0;
+    let mut j: usize = 0;
+    while j < blocks {
+        let size = block_size(n, j);
+        let next = fill(&mut p.positions, words, over_one, from, size);
+        from = next;
+        p.count = size;
+        let more = spill(&p.positions, size);
+        p = flush(p, &mut *out, j, blocks + 8 * j, over, over_start + over);
+        over += more;
+        j += 1;
     }
 }
 
