@@ -5,10 +5,11 @@ ghost use mathlib.Core.Path.{_≡_};
 ghost use mathlib.Core.List.{_++_};
 ghost use Prim.Native.Nat.{_+_, _/_, _^_, _≤_, _<_};
 ghost use lib.ListN.{length, drop};
+ghost use Rattle.errors.specs.Answer.{leaves};
 ghost use Rattle.bit_vectors.specs.Vector.{wordsFor};
 ghost use Rattle.darray.specs.Positions.{positions};
 ghost use Rattle.darray.specs.Index.{indexWords};
-ghost use Rattle.darray.specs.Queries.{measuring, measureOf};
+ghost use Rattle.darray.specs.Queries.{measuring, building, measureOf, buildOf};
 ghost use Rattle.darray.specs.Scan.{Sized, Writable};
 use crate::pending::empty;
 use crate::pending::fill;
@@ -130,4 +131,23 @@ pub fn measure(words: &[u64], len: usize, over_one: bool) -> Measured
         return Measured::Refused(Refusal::TooMany);
     }
     Measured::Sizes(sizes_of(words, len, over_one))
+}
+
+// Writes the index over the ones or the zeros of a bit vector to the front of `out`, and leaves its later words.
+pub fn build(words: &[u64], len: usize, over_one: bool, out: &mut [u64]) -> Built
+    ensures { λ r. ⌜ leaves (building r) (now (out .exit)) ≡ buildOf (now (words .entry)) len «over_one» (now (out .entry)) ⌝ }
+{
+    if is_invalid(words, len) {
+        return Built::Refused(Refusal::InvalidBits);
+    }
+    if len >= MAX_LEN {
+        return Built::Refused(Refusal::TooMany);
+    }
+    let s = sizes_of(words, len, over_one);
+    let n = total(s);
+    if out.len() < n {
+        return Built::Refused(Refusal::ShortBuffer);
+    }
+    write(words, len, over_one, s, &mut *out);
+    Built::Words(n)
 }
