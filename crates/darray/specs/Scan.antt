@@ -4,12 +4,13 @@ use mathlib.Core.Path.{_≡_}
 use mathlib.Core.List.{List}
 use Prim.Native.Nat.{ℕ, _+_, _-_, _*_, _^_, _≤_, _<_, min}
 use lib.ListN.{length}
+use Rattle.bit_vectors.specs.Vector.{wordsFor}
 use Rattle.broadword.specs.Bits.{count}
 use Rattle.darray.specs.declared.scan.Cursor.{Cursor}
 use Rattle.darray.specs.declared.scan.Hit.{Hit}
 use Rattle.darray.specs.declared.scan.Span.{Span}
 use Rattle.darray.specs.declared.inner.Sizes.{Sizes}
-use Rattle.darray.specs.Index.{blocks, lanes, before}
+use Rattle.darray.specs.Index.{blocks, lanes, before, indexWords}
 
 -- i is the position of f with the number k
 pub record Position (f : ℕ → ℕ) (k i : ℕ) : Type 0 where
@@ -50,3 +51,10 @@ pub record Sized (P : List ℕ) (s : Sizes) : Type 0 where
   pub entries : s .entries ≡ blocks P
   pub lanes : s .lanes ≡ lanes P
   pub overflow : s .overflow ≡ before P (blocks P)
+
+-- the sizes are right, and there is room: for the len bits in m words, and for the index in k words
+pub record Writable (P : List ℕ) (len m : ℕ) (s : Sizes) (k : ℕ) : Type 0 where
+  pub sized : Sized P s
+  pub words : wordsFor len ≤ m
+  pub few : len < 2 ^ 63
+  pub room : length (indexWords P) ≤ k

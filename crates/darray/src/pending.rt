@@ -48,6 +48,24 @@ fn without_lowest(w: u64) -> u64
     w & (w - 1)
 }
 
+// All positions are left.
+pub fn start(words: &[u64], over_one: bool) -> Rest
+    ensures { λ r. ⌜ ((r .taken ≡ 0) × (0 < length (now (words .entry)) → Left «over_one» (now (words .entry)) r)) ⌝ }
+{
+    if words.len() == 0 {
+        return Rest {
+            word: 0,
+            left: 0,
+            taken: 0,
+        };
+    }
+    Rest {
+        word: 0,
+        left: word_over(words, 0, over_one),
+        taken: 0,
+    }
+}
+
 // Stores the next `size` positions.
 pub fn fill(a: &mut [u64; 1024], words: &[u64], over_one: bool, from: Rest, size: usize) -> Rest
     requires { ⌜ ((length (now a) ≡ 1024) × (size ≤ 1024) × (0 < size) × Left «over_one» (now words) from × Inside (bitOver «over_one» (now words)) (length (now words)) (from .taken + (size - 1))) ⌝ }
