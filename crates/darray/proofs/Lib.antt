@@ -5,6 +5,7 @@ pub mod Blocks
 pub mod Clear
 pub mod Taking
 pub mod Flush
+pub mod Matching
 pub mod Building
 pub mod Cases
 pub mod Signed
