@@ -7,6 +7,7 @@ pub mod Taking
 pub mod Flush
 pub mod Matching
 pub mod Building
+pub mod Built
 pub mod Cases
 pub mod Signed
 pub mod Through
