@@ -15,7 +15,7 @@ use Rattle.bit_vectors.proofs.Runs.{bitOver-le}
 use Rattle.darray.specs.Positions.{positions}
 use Rattle.darray.specs.Index.{pos, blocks, size, spill, before, lanes, laneWords, indexWords}
 use Rattle.darray.specs.Scan.{Position, Inside, Sized, Writable}
-use Rattle.darray.specs.Pending.{Left, Taken, blockSpill, flushed, Flushable, Matches}
+use Rattle.darray.specs.Pending.{Left, Taken, Rising, blockSpill, flushed, Flushable, Matches}
 use Rattle.darray.specs.declared.inner.Sizes.{Sizes}
 use Rattle.darray.specs.declared.pending.Rest.{Rest}
 use Rattle.darray.proofs.Positions as places
@@ -24,6 +24,7 @@ use Rattle.darray.proofs.Index.{Holds}
 use Rattle.darray.proofs.Blocks as block
 use Rattle.darray.proofs.Counts as counts
 use Rattle.darray.proofs.Flush as flush
+use Rattle.darray.proofs.Flush.{Shows}
 use Rattle.darray.proofs.Matching as matching
 
 -- at the start all of the first word is left
@@ -48,6 +49,17 @@ holds-whole P l l′ same room h past =
         let e : length (indexWords P) + k ≡ i = omega arith in
         past i (omega arith) ∙ ap (λ (m : ℕ). getD l m 0) (sym e) ∙ sym (getD-drop (length (indexWords P)) l k 0)
         ∙ sym (getD-append-add (indexWords P) (drop (length (indexWords P)) l) k 0) ∙ ap (λ (m : ℕ). getD (indexWords P ++ drop (length (indexWords P)) l) m 0) e
+
+pub shows-rising : (b : Bool) (ws : List ℕ) (len j : ℕ) → j < blocks (positions b ws len) → (a : List ℕ) (z : ℕ) → z ≡ size (positions b ws len) j → Shows (positions b ws len) j a → Rising a z
+shows-rising b ws len j h a z e is i g =
+    let P = positions b ws len in
+    let n = index.size-pos P j h in
+    let g′ : 32 * i < size P j = omega arith in
+    let f = is .every 0 n in
+    let m = is .every i g′ in
+    let l = ap (λ (k : ℕ). getD a (k - 1) 0) e ∙ is .last in
+    (omega (arith, index.rising b ws len (1024 * j + 0) (1024 * j + 32 * i) (omega arith) (index.size-in P j (32 * i) g′)),
+    omega (arith, index.rising b ws len (1024 * j + 32 * i) (1024 * j + (size P j - 1)) (omega arith) (index.size-in P j (size P j - 1) (omega arith))))
 
 -- what is said of the sizes
 module _ (P : List ℕ) (s : Sizes) (z : Sized P s) where
@@ -91,23 +103,24 @@ module _ (b : Bool) (ws : List ℕ) (len : ℕ) (s : Sizes) (m : ℕ) (w : Writa
     there = subst (λ (x : ℕ). j < x) (w .sized .entries) h
 
     module _ (a : List ℕ) (from r : Rest) (at : from .taken ≡ 1024 * j) (t : Taken b ws from z a r) where
-      stored : (k : ℕ) → k < size (positions b ws len) j → getD a k 0 ≡ pos (positions b ws len) (1024 * j + k)
-      stored k g =
+      at-number : (k : ℕ) → k < size (positions b ws len) j → getD a k 0 ≡ pos (positions b ws len) (1024 * j + k)
+      at-number k g =
           let g′ : k < z = omega (arith, size-is j z ez) in
           sym (block.pos-is b ws len (s .positions) positions-count (1024 * j + k) (getD a k 0)
           (subst (λ (x : ℕ). Position (bitOver b ws) (x + k) (getD a k 0)) at (t .stored k g′)) (omega (arith, block-there j h)))
 
+      stored : Shows (positions b ws len) j a
+      stored = record {
+        every = λ i g. at-number (32 * i) g
+        ; last = at-number (size (positions b ws len) j - 1) (omega (arith, index.size-pos (positions b ws len) j there))
+        ; all = λ k g. at-number k (omega (arith, index.spill-le (positions b ws len) j))
+        }
+
       pub spill-is : blockSpill a z ≡ spill (positions b ws len) j
       spill-is = ap (blockSpill a) (size-is j z ez) ∙ flush.spill-block (positions b ws len) j there a stored
 
-      pub rising : (i k : ℕ) → i ≤ k → k < z → getD a i 0 ≤ getD a k 0
-      rising i k g l =
-          omega (
-            arith,
-            stored i (omega (arith, size-is j z ez)),
-            stored k (omega (arith, size-is j z ez)),
-            index.rising b ws len (1024 * j + i) (1024 * j + k) (omega arith) (omega (arith, block-there j h, w .sized .positions)),
-          )
+      pub rising : Rising a z
+      rising = shows-rising b ws len j there a z (size-is j z ez) stored
 
       module _ (o : ℕ) (eo : o ≡ before (positions b ws len) j) (l : List ℕ) where
         over-at : s .entries + (s .lanes + 3) / 4 + o ≡ blocks (positions b ws len) + laneWords (positions b ws len) + before (positions b ws len) j

@@ -29,9 +29,9 @@ pub record Taken (b : Bool) (ws : List ℕ) (from : Rest) (size : ℕ) (a : List
 
 -- ---- a block of the n pending positions in a
 
--- positions that never fall
+-- every 32nd position lies between the first and the last
 abbrev pub Rising : List ℕ → ℕ → Type 0
-Rising a n = (j k : ℕ) → j ≤ k → k < n → getD a j 0 ≤ getD a k 0
+Rising a n = (i : ℕ) → 32 * i < n → (getD a 0 0 ≤ getD a (32 * i) 0) × (getD a (32 * i) 0 ≤ getD a (n - 1) 0)
 
 unfoldable pub blockWide : List ℕ → ℕ → Bool
 blockWide a n = leb 65536 (getD a (n - 1) 0 - getD a 0 0)
