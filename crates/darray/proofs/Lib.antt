@@ -6,5 +6,6 @@ pub mod Clear
 pub mod Taking
 pub mod Flush
 pub mod Matching
+pub mod Sampling
 pub mod Building
 pub mod Cases
