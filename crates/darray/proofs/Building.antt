@@ -1,7 +1,7 @@
 -- The index, written block by block. Assumes nothing.
 use mathlib.Core.Path.{_≡_, refl, sym, ap, ap₂, _∙_, subst}
 use mathlib.Core.List.{List, _++_}
-use mathlib.Core.Bool.{Bool}
+use mathlib.Core.Bool.{Bool, true, false}
 use Prim.Native.Nat.{ℕ, suc, _+_, _-_, _*_, _/_, _^_, _≤_, _<_, min}
 use native.Mathlib.Nat.{not-suc-le-zero, lt-of-lt-of-le}
 use native.Mathlib.Decide.{decLt}
@@ -13,9 +13,9 @@ use Rattle.broadword.specs.Places.{select}
 use Rattle.bit_vectors.specs.Vector.{bitOver, wordOver, wordsFor}
 use Rattle.bit_vectors.proofs.Runs.{bitOver-le}
 use Rattle.darray.specs.Positions.{positions}
-use Rattle.darray.specs.Index.{pos, blocks, size, spill, before, lanes, laneWords, indexWords}
+use Rattle.darray.specs.Index.{pos, blocks, size, wide, spill, before, lanes, laneWords, indexWords}
 use Rattle.darray.specs.Scan.{Position, Inside, Sized, Writable}
-use Rattle.darray.specs.Pending.{Left, Taken, blockSpill, flushed, Flushable, Matches}
+use Rattle.darray.specs.Pending.{Left, Taken, Due, Sampled, Rising, blockSpill, flushed, Flushable, Matches}
 use Rattle.darray.specs.declared.inner.Sizes.{Sizes}
 use Rattle.darray.specs.declared.pending.Rest.{Rest}
 use Rattle.darray.proofs.Positions as places
@@ -24,7 +24,9 @@ use Rattle.darray.proofs.Index.{Holds}
 use Rattle.darray.proofs.Blocks as block
 use Rattle.darray.proofs.Counts as counts
 use Rattle.darray.proofs.Flush as flush
+use Rattle.darray.proofs.Flush.{Shows}
 use Rattle.darray.proofs.Matching as matching
+use Rattle.darray.proofs.Sampling as sampling
 
 -- at the start all of the first word is left
 pub all-left : (b : Bool) (ws : List ℕ) (w : ℕ) → w ≡ wordOver b (getD ws 0 0) → Left b ws (record { word = 0; left = w; taken = 0 })
@@ -48,6 +50,18 @@ holds-whole P l l′ same room h past =
         let e : length (indexWords P) + k ≡ i = omega arith in
         past i (omega arith) ∙ ap (λ (m : ℕ). getD l m 0) (sym e) ∙ sym (getD-drop (length (indexWords P)) l k 0)
         ∙ sym (getD-append-add (indexWords P) (drop (length (indexWords P)) l) k 0) ∙ ap (λ (m : ℕ). getD (indexWords P ++ drop (length (indexWords P)) l) m 0) e
+
+pub shows-rising : (b : Bool) (ws : List ℕ) (len j : ℕ) → j < blocks (positions b ws len) → (a : List ℕ) (z : ℕ) → z ≡ size (positions b ws len) j → Shows (positions b ws len) j a → Rising a z
+shows-rising b ws len j h a z e is i g =
+    let P = positions b ws len in
+    let n = index.size-pos P j h in
+    let g′ : 32 * i < size P j = omega arith in
+    let f = is .every 0 n in
+    let m = is .every i g′ in
+    let l = ap (λ (k : ℕ). getD a (k - 1) 0) e ∙ is .last in (
+      omega (arith, index.rising b ws len (1024 * j + 0) (1024 * j + 32 * i) (omega arith) (index.size-in P j (32 * i) g′)),
+      omega (arith, index.rising b ws len (1024 * j + 32 * i) (1024 * j + (size P j - 1)) (omega arith) (index.size-in P j (size P j - 1) (omega arith))),
+    )
 
 -- what is said of the sizes
 module _ (P : List ℕ) (s : Sizes) (z : Sized P s) where
@@ -90,24 +104,44 @@ module _ (b : Bool) (ws : List ℕ) (len : ℕ) (s : Sizes) (m : ℕ) (w : Writa
     pub there : j < blocks (positions b ws len)
     there = subst (λ (x : ℕ). j < x) (w .sized .entries) h
 
-    module _ (a : List ℕ) (from r : Rest) (at : from .taken ≡ 1024 * j) (t : Taken b ws from z a r) where
-      stored : (k : ℕ) → k < size (positions b ws len) j → getD a k 0 ≡ pos (positions b ws len) (1024 * j + k)
-      stored k g =
-          let g′ : k < z = omega (arith, size-is j z ez) in
-          sym (block.pos-is b ws len (s .positions) positions-count (1024 * j + k) (getD a k 0)
-          (subst (λ (x : ℕ). Position (bitOver b ws) (x + k) (getD a k 0)) at (t .stored k g′)) (omega (arith, block-there j h)))
+    -- where all positions were stored
+    pub taken-shows : (a : List ℕ) (from r : Rest) → from .taken ≡ 1024 * j → Taken b ws from z a r → Shows (positions b ws len) j a
+    taken-shows a from r at t = record {
+      every = λ i g. at-number (32 * i) g;
+      last = at-number (size (positions b ws len) j - 1) (omega (arith, index.size-pos (positions b ws len) j there));
+      all = λ k g. at-number k (omega (arith, index.spill-le (positions b ws len) j));
+    }
+      where
+        at-number : (k : ℕ) → k < size (positions b ws len) j → getD a k 0 ≡ pos (positions b ws len) (1024 * j + k)
+        at-number k g =
+            let g′ : k < z = omega (arith, size-is j z ez) in
+            sym (block.pos-is b ws len (s .positions) positions-count (1024 * j + k) (getD a k 0)
+            (subst (λ (x : ℕ). Position (bitOver b ws) (x + k) (getD a k 0)) at (t .stored k g′)) (omega (arith, block-there j h)))
 
+    -- where those were stored that are due
+    pub sampled-shows : (a : List ℕ) (v : Bool) → v ≡ wide (positions b ws len) j → Sampled (bitOver b ws) (1024 * j) z v a → Shows (positions b ws len) j a
+    sampled-shows a v e t = record {
+      every = λ i g. at-number (32 * i) g (sampling.due-32 v i);
+      last = ap (λ (k : ℕ). getD a (k - 1) 0) (sym (size-is j z ez)) ∙ sym (at-position (z - 1) (getD a (z - 1) 0) (t .last) (omega (arith, block-there j h))) ∙ ap (λ (k : ℕ). pos (positions b ws len) (1024 * j + (k - 1))) (size-is j z ez);
+      all = λ k g. at-number k (omega (arith, index.spill-le (positions b ws len) j)) (spilled-due v e k g);
+    }
+      where
+        at-position : (k x : ℕ) → Position (bitOver b ws) (1024 * j + k) x → k < z → pos (positions b ws len) (1024 * j + k) ≡ x
+        at-position k x p g = block.pos-is b ws len (s .positions) positions-count (1024 * j + k) x p (omega (arith, block-there j h))
+
+        at-number : (k : ℕ) → k < size (positions b ws len) j → Due v k → getD a k 0 ≡ pos (positions b ws len) (1024 * j + k)
+        at-number k g d = let g′ : k < z = omega (arith, size-is j z ez) in sym (at-position k (getD a k 0) (t .stored k g′ d) g′)
+
+        spilled-due : (u : Bool) → u ≡ wide (positions b ws len) j → (k : ℕ) → k < spill (positions b ws len) j → Due u k
+        spilled-due true q k g = tt
+        spilled-due false q k g = absurd (omega (arith, index.spill-near (positions b ws len) j (sym q)))
+
+    module _ (a : List ℕ) (stored : Shows (positions b ws len) j a) where
       pub spill-is : blockSpill a z ≡ spill (positions b ws len) j
       spill-is = ap (blockSpill a) (size-is j z ez) ∙ flush.spill-block (positions b ws len) j there a stored
 
-      pub rising : (i k : ℕ) → i ≤ k → k < z → getD a i 0 ≤ getD a k 0
-      rising i k g l =
-          omega (
-            arith,
-            stored i (omega (arith, size-is j z ez)),
-            stored k (omega (arith, size-is j z ez)),
-            index.rising b ws len (1024 * j + i) (1024 * j + k) (omega arith) (omega (arith, block-there j h, w .sized .positions)),
-          )
+      pub rising : Rising a z
+      rising = shows-rising b ws len j there a z (size-is j z ez) stored
 
       module _ (o : ℕ) (eo : o ≡ before (positions b ws len) j) (l : List ℕ) where
         over-at : s .entries + (s .lanes + 3) / 4 + o ≡ blocks (positions b ws len) + laneWords (positions b ws len) + before (positions b ws len) j

@@ -45,9 +45,11 @@ module _ (ws : List ℕ) (len : ℕ) (b : Bool) where
     build-3 h l g = rw (h, lt-leb (2 ^ 63) len l, lt-ltb (length out) (length (indexWords (positions b ws len))) g)
 
     pub build-ok : invalid ws len ≡ false → len < 2 ^ 63 → length (indexWords (positions b ws len)) ≤ length out
-        → buildOf ws len b out ≡ leaves (value (length (indexWords (positions b ws len)))) (indexWords (positions b ws len) ++ drop (length (indexWords (positions b ws len))) out)
+        → (n : ℕ) (l : List ℕ) → n ≡ length (indexWords (positions b ws len)) → l ≡ indexWords (positions b ws len) ++ drop (length (indexWords (positions b ws len))) out
+        → leaves (value n) l ≡ buildOf ws len b out
     unfolding buildOf
-    build-ok h l g = rw (h, lt-leb (2 ^ 63) len l, le-ltb (length out) (length (indexWords (positions b ws len))) g)
+    build-ok h l g n m p q =
+        rw (h, lt-leb (2 ^ 63) len l, le-ltb (length out) (length (indexWords (positions b ws len))) g) (ap₂ (λ (x : ℕ) (y : List ℕ). leaves (value x) y) p q)
 
   module _ (index : List ℕ) where
     pub validate-13 : invalid ws len ≡ true → validateOf ws len b index ≡ refused 13

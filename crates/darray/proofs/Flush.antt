@@ -70,9 +70,9 @@ module _ (a : List ℕ) (n : ℕ) where
   unfolding blockLane
   lane-near i h e = rw (lt-ltb (32 * i) n h, e)
 
-  pub near-lt : (k : ℕ) → Rising a n → k < n → blockWide a n ≡ false → getD a k 0 - getD a 0 0 < 65536
+  pub near-lt : (i : ℕ) → Rising a n → 32 * i < n → blockWide a n ≡ false → getD a (32 * i) 0 - getD a 0 0 < 65536
   unfolding blockWide
-  near-lt k r h e = omega (arith, leb-false 65536 (getD a (n - 1) 0 - getD a 0 0) e, r k (n - 1) (omega arith) (omega arith))
+  near-lt i r h e = omega (arith, leb-false 65536 (getD a (n - 1) 0 - getD a 0 0) e, r i h .1)
 
 pub four : (f : ℕ → ℕ) → f 0 + f 1 * 65536 + (f 2 + f 3 * 65536) * 4294967296 ≡ word 16 f 4
 unfolding word
@@ -80,13 +80,19 @@ four f = omega arith
 
 -- ---- the block j of the positions P
 
-module _ (P : List ℕ) (j : ℕ) (h : j < blocks P) (a : List ℕ) (is : (k : ℕ) → k < size P j → getD a k 0 ≡ pos P (1024 * j + k)) where
+-- a has the positions of the block that its words need
+pub record Shows (P : List ℕ) (j : ℕ) (a : List ℕ) : Type 0 where
+  pub every : (i : ℕ) → 32 * i < size P j → getD a (32 * i) 0 ≡ pos P (1024 * j + 32 * i)
+  pub last : getD a (size P j - 1) 0 ≡ pos P (1024 * j + (size P j - 1))
+  pub all : (k : ℕ) → k < spill P j → getD a k 0 ≡ pos P (1024 * j + k)
+
+module _ (P : List ℕ) (j : ℕ) (h : j < blocks P) (a : List ℕ) (is : Shows P j a) where
   first : getD a 0 0 ≡ pos P (1024 * j)
-  first = is 0 (index.size-pos P j h) ∙ ap (pos P) (let e : 1024 * j + 0 ≡ 1024 * j = omega arith in e)
+  first = is .every 0 (index.size-pos P j h) ∙ ap (pos P) (let e : 1024 * j + 0 ≡ 1024 * j = omega arith in e)
 
   pub wide-block : blockWide a (size P j) ≡ wide P j
   unfolding blockWide wide
-  wide-block = ap₂ (λ (x y : ℕ). leb 65536 (x - y)) (is (size P j - 1) (omega (arith, index.size-pos P j h))) first
+  wide-block = ap₂ (λ (x y : ℕ). leb 65536 (x - y)) (is .last) first
 
   pub spill-block : blockSpill a (size P j) ≡ spill P j
   unfolding blockSpill spill
@@ -115,7 +121,7 @@ module _ (P : List ℕ) (j : ℕ) (h : j < blocks P) (a : List ℕ) (is : (k : �
       by-wide false e g =
           let q : 32 * (32 * j + i) ≡ 1024 * j + 32 * i = omega arith in
           lane-near a (size P j) i g (wide-block ∙ e)
-          ∙ ap₂ (λ (x y : ℕ). x - y) (is (32 * i) g ∙ ap (pos P) (sym q)) (first ∙ ap (λ (k : ℕ). pos P (1024 * k)) (sym at))
+          ∙ ap₂ (λ (x y : ℕ). x - y) (is .every i g ∙ ap (pos P) (sym q)) (first ∙ ap (λ (k : ℕ). pos P (1024 * k)) (sym at))
           ∙ sym (index.lane-near P (32 * j + i) (lane-there i l g) (ap (wide P) at ∙ e))
 
       by-there : Dec (32 * i < size P j) → blockLane a (size P j) i ≡ lane P (32 * j + i)
@@ -139,7 +145,7 @@ pub lanes-all : (P : List ℕ) (j t : ℕ) → j < blocks P → t < 8 * (j + 1) 
 unfolding blocks size laneWords lanes
 lanes-all P j t h g l = omega arith
 
-module _ (P : List ℕ) (j : ℕ) (h : j < blocks P) (a : List ℕ) (is : (k : ℕ) → k < size P j → getD a k 0 ≡ pos P (1024 * j + k)) (l : List ℕ) (room : length (indexWords P) ≤ length l) where
+module _ (P : List ℕ) (j : ℕ) (h : j < blocks P) (a : List ℕ) (is : Shows P j a) (l : List ℕ) (room : length (indexWords P) ≤ length l) where
   pub over-room : blocks P + laneWords P + before P j + blockSpill a (size P j) ≤ length l
   over-room = omega (arith, room, index.length-index P, spill-block P j h a is, index.before-next P j, index.before-mono P (suc j) (blocks P) h)
 
@@ -228,7 +234,7 @@ module _ (P : List ℕ) (j : ℕ) (h : j < blocks P) (a : List ℕ) (is : (k : �
           ap (λ (k : ℕ). getD after k 0) (sym z)
           ∙ put-in with-lanes (blocks P + laneWords P + before P j) (λ i. getD a i 0) (blockSpill a (size P j)) i
           (omega (arith, over-room, length-put with-entry (blocks P + 8 * j) (blockLaneWord a (size P j)) ((size P j + 127) / 128), length-set l j (blockEntry a (size P j) (before P j)))) (omega (arith, spill-block P j h a is))
-          ∙ is i (omega (arith, index.spill-le P j)) ∙ sym (index.overflow-at P j i (blocks P) m h) ∙ ap (λ (k : ℕ). getD (overflow P (blocks P)) k 0) y
+          ∙ is .all i m ∙ sym (index.overflow-at P j i (blocks P) m h) ∙ ap (λ (k : ℕ). getD (overflow P (blocks P)) k 0) y
 
 -- ---- the steps of a flush
 

@@ -6,6 +6,7 @@ pub mod Clear
 pub mod Taking
 pub mod Flush
 pub mod Matching
+pub mod Sampling
 pub mod Building
 pub mod Built
 pub mod Cases

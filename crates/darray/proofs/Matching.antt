@@ -19,6 +19,7 @@ use Rattle.darray.specs.Queries.{same}
 use Rattle.darray.proofs.Index as index
 use Rattle.darray.proofs.Index.{Holds}
 use Rattle.darray.proofs.Flush as flush
+use Rattle.darray.proofs.Flush.{Shows}
 
 true-false : true ≡ false → ⊥
 true-false e = let z : _≡_ {A = ℕ} 0 1 = cc in omega arith
@@ -38,7 +39,7 @@ matches-at a j l {n} {n′} {x} {x′} {o} {o′} {y} {y′} p q r t m =
 
 -- ---- the block j of the positions P
 
-module _ (P : List ℕ) (j : ℕ) (h : j < blocks P) (a : List ℕ) (is : (k : ℕ) → k < size P j → getD a k 0 ≡ pos P (1024 * j + k)) (l : List ℕ) where
+module _ (P : List ℕ) (j : ℕ) (h : j < blocks P) (a : List ℕ) (is : Shows P j a) (l : List ℕ) where
   -- an index has its words
   pub index-matches : l ≡ indexWords P → Matches a (size P j) j (blocks P + 8 * j) (before P j) (blocks P + laneWords P + before P j) l
   index-matches e = record {
@@ -49,7 +50,7 @@ module _ (P : List ℕ) (j : ℕ) (h : j < blocks P) (a : List ℕ) (is : (k : �
     spilled = λ i g.
         let q : blocks P + laneWords P + before P j + i ≡ blocks P + laneWords P + (before P j + i) = omega arith in
         let m : i < spill P j = subst (λ (n : ℕ). i < n) (flush.spill-block P j h a is) g in
-        ap₂ (λ (x : List ℕ) (k : ℕ). getD x k 0) e q ∙ index.index-spilled P j i m h ∙ sym (is i (omega (arith, index.spill-le P j)));
+        ap₂ (λ (x : List ℕ) (k : ℕ). getD x k 0) e q ∙ index.index-spilled P j i m h ∙ sym (is .all i m);
   }
 
   -- and with its words, the words of one block more are the index's
@@ -82,7 +83,7 @@ module _ (P : List ℕ) (j : ℕ) (h : j < blocks P) (a : List ℕ) (is : (k : �
           let y : before P j + i ≡ x = omega arith in
           let n : i < spill P j = omega (arith, index.before-next P j, ap (before P) (add-one j)) in
           ap (λ (k : ℕ). getD l k 0) (sym z) ∙ m .spilled i (subst (λ (w : ℕ). i < w) (sym (flush.spill-block P j h a is)) n)
-          ∙ is i (omega (arith, index.spill-le P j)) ∙ sym (index.overflow-at P j i (blocks P) n h) ∙ ap (λ (k : ℕ). getD (overflow P (blocks P)) k 0) y
+          ∙ is .all i n ∙ sym (index.overflow-at P j i (blocks P) n h) ∙ ap (λ (k : ℕ). getD (overflow P (blocks P)) k 0) y
 
 -- ---- the whole index
 

@@ -2,7 +2,7 @@
 use mathlib.Core.Path.{_≡_}
 use mathlib.Core.List.{List}
 use mathlib.Core.Bool.{Bool, true, false}
-use Prim.Native.Nat.{ℕ, zero, suc, _+_, _-_, _*_, _/_, _^_, _≤_, _<_}
+use Prim.Native.Nat.{ℕ, zero, suc, _+_, _-_, _*_, _/_, _%_, _^_, _≤_, _<_}
 use lib.Dec.{leb, ltb}
 use lib.ListN.{length, getD, set}
 use Rattle.errors.specs.Answer.{pick}
@@ -27,11 +27,22 @@ pub record Taken (b : Bool) (ws : List ℕ) (from : Rest) (size : ℕ) (a : List
   pub left : Left b ws r
   pub taken : r .taken ≡ from .taken + size
 
+-- the positions of a block that its words need: all of a wide one, else every 32nd
+abbrev pub Due : Bool → ℕ → Type 0
+Due true i = Unit {0}
+Due false i = i % 32 ≡ 0
+
+-- they and the last were stored
+pub record Sampled (f : ℕ → ℕ) (k size : ℕ) (wide : Bool) (a : List ℕ) : Type 0 where
+  pub long : length a ≡ 1024
+  pub stored : (i : ℕ) → i < size → Due wide i → Position f (k + i) (getD a i 0)
+  pub last : Position f (k + (size - 1)) (getD a (size - 1) 0)
+
 -- ---- a block of the n pending positions in a
 
--- positions that never fall
+-- every 32nd position lies between the first and the last
 abbrev pub Rising : List ℕ → ℕ → Type 0
-Rising a n = (j k : ℕ) → j ≤ k → k < n → getD a j 0 ≤ getD a k 0
+Rising a n = (i : ℕ) → 32 * i < n → (getD a 0 0 ≤ getD a (32 * i) 0) × (getD a (32 * i) 0 ≤ getD a (n - 1) 0)
 
 unfoldable pub blockWide : List ℕ → ℕ → Bool
 blockWide a n = leb 65536 (getD a (n - 1) 0 - getD a 0 0)

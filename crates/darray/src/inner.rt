@@ -16,6 +16,7 @@ use crate::pending::block_matches;
 use crate::pending::empty;
 use crate::pending::fill;
 use crate::pending::flush;
+use crate::pending::sample;
 use crate::pending::spill;
 use crate::pending::start;
 use crate::scan::Cursor;
@@ -122,7 +123,8 @@ fn write(words: &[u64], len: usize, over_one: bool, s: Sizes, out: &mut [u64])
     }
 }
 
-// Whether the words are the index of the bits, whose sizes are s: block by block, with one block's positions in memory.
+// Whether the words are the index of the bits, whose sizes are s: block by block, with one block's positions in memory, of which
+// those between every 32nd are not looked for.
 fn matches(words: &[u64], len: usize, over_one: bool, s: Sizes, index: &[u64]) -> bool
     requires { ⌜ (Writable (positions «over_one» (now words) len) len (length (now words)) s (length (now index)) × (length (now index) ≡ length (indexWords (positions «over_one» (now words) len)))) ⌝ }
     ensures { λ r. ⌜ Decides r (now (index .entry) ≡ indexWords (positions «over_one» (now (words .entry)) len)) ⌝ }
@@ -130,18 +132,21 @@ fn matches(words: &[u64], len: usize, over_one: bool, s: Sizes, index: &[u64]) -
     let n = s.positions;
     let blocks = s.entries;
     let over_start = blocks + (s.lanes + 3) / 4;
+    let table = select_in_byte_table();
     let mut a = [0u64; 1024];
-    let mut from = start(words, over_one);
+    let mut at = Cursor { word: 0, before: 0 };
     let mut over: usize = 0;
     let mut j: usize = 0;
     while j < blocks {
         let size = block_size(n, j);
-        let next = fill(&mut a, words, over_one, from, size);
-        from = next;
+        let e = ends(&table, words, over_one, n, j, at);
+        sample(&mut a, &table, words, over_one, e, BLOCK_LEN * j, size);
         if !block_matches(&a, size, index, j, blocks + 8 * j, over, over_start + over) {
             return false;
         }
         over += spill(&a, size);
+        let next = e.next;
+        at = next;
         j += 1;
     }
     true

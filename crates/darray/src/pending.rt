@@ -1,16 +1,19 @@
 // The pending positions of a block: they are collected word by word, and a flush writes them to the index and empties them.
 ghost use mathlib.Core.Path.{_≡_};
 ghost use Prim.Native.Nat.{ℕ, _+_, _-_, _*_, _/_, _^_, _≤_, _<_};
+ghost use lib.Dec.{leb};
 ghost use lib.ListN.{length, getD, replicate};
 ghost use Rattle.errors.specs.Answer.{pick};
 ghost use Rattle.broadword.specs.Bits.{bit};
-ghost use Rattle.broadword.specs.Places.{select};
+ghost use Rattle.broadword.specs.Places.{select, SelectInByte};
 ghost use Rattle.broadword.specs.declared.Found.the-variants.{At};
 ghost use Rattle.bit_vectors.specs.Vector.{bitOver};
-ghost use Rattle.darray.specs.Scan.{Inside};
-ghost use Rattle.darray.specs.Pending.{Left, Taken, Rising, blockWide, blockSpill, blockLane, blockLaneWord, put, flushed, Flushable, emptied, Decides, Reads, Matches};
+ghost use Rattle.darray.specs.Scan.{Position, Ahead, Inside};
+ghost use Rattle.darray.specs.Pending.{Left, Taken, Sampled, Rising, blockWide, blockSpill, blockLane, blockLaneWord, put, flushed, Flushable, emptied, Decides, Reads, Matches};
 use crate::inner::BLOCK_LEN;
 use crate::inner::SUBBLOCK_LEN;
+use crate::scan::Span;
+use crate::scan::find;
 use crate::scan::is_wide;
 use bit_vectors::words::WORD_LEN;
 use bit_vectors::words::word_over;
@@ -89,6 +92,45 @@ pub fn fill(a: &mut [u64; 1024], words: &[u64], over_one: bool, from: Rest, size
         left,
         taken: from.taken + size,
     }
+}
+
+// From one position that a block's words need to the next: all of a wide one are needed, else every 32nd.
+fn stride(first: u64, last: u64) -> usize
+    requires { ⌜ first ≤ last ⌝ }
+    ensures { λ r. ⌜ r ≡ pick (leb 65536 (last - first)) 1 32 ⌝ }
+{
+    if is_wide(first, last) {
+        1
+    } else {
+        SUBBLOCK_LEN
+    }
+}
+
+// Stores those positions, and the last, of the `size` from the number k on, whose ends are e.
+pub fn sample(
+    a: &mut [u64; 1024],
+    table: &[u8; 2048],
+    words: &[u64],
+    over_one: bool,
+    e: Span,
+    k: usize,
+    size: usize,
+)
+    requires { ⌜ ((length (now a) ≡ 1024) × (0 < size) × (size ≤ 1024) × (e .first ≤ e .last) × SelectInByte (now table) × Ahead (bitOver «over_one» (now words)) (e .from) k × Position (bitOver «over_one» (now words)) (k + (size - 1)) (e .last) × Inside (bitOver «over_one» (now words)) (length (now words)) (k + (size - 1))) ⌝ }
+    ensures { λ _. ⌜ Sampled (bitOver «over_one» (now (words .entry))) k size (leb 65536 (e .last - e .first)) (now (a .exit)) ⌝ }
+{
+    let step = stride(e.first, e.last);
+    let mut at = e.from;
+    let mut i: usize = 0;
+    while i < size {
+        let h = find(table, words, over_one, at, k + i);
+        a[i] = h.at;
+        let next = h.cursor;
+        at = next;
+        i += step;
+    }
+    let last = size - 1;
+    a[last] = e.last;
 }
 
 pub fn empty() -> Pending

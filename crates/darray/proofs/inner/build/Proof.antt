@@ -1,11 +1,9 @@
 -- `darray::inner::build` meets its contract.
 -- Assumes nothing.
 use borrow.Author.Needs.{needs}
-use mathlib.Core.Path.{_≡_, sym, ap, ap₂, _∙_, subst}
-use mathlib.Core.List.{List}
+use mathlib.Core.Path.{_≡_, sym, _∙_, subst}
 use Prim.Native.Nat.{ℕ, _≤_, _<_}
 use lib.ListN.{length}
-use Rattle.errors.specs.Answer.{value, leaves}
 use Rattle.bit_vectors.proofs.Valid.{valid}
 use Rattle.darray.specs.Positions.{positions}
 use Rattle.darray.specs.Index.{indexWords}
@@ -73,8 +71,8 @@ same-length c = search needs
 returns-4 : tie.Need-returns-4
 returns-4 c =
     let a = c .before .before .before .before .before .before .before .before .before .before .before .before .args in
-    ap₂ (λ (n : ℕ) (l : List ℕ). leaves (value n) l) (total (c .before .before .before .before .before)) (c .before .before .write .ensures)
-    ∙ sym (cases.build-ok _ _ _ _ (sym (c .before .before .before .before .before .before .before .before .before .is-invalid .ensures) ∙ c .before .before .before .before .before .before .before .before .if1 .left) (c .before .before .before .before .before .before .before .if2 .left) (subst (λ (n : ℕ). n ≤ length (a .out .now)) (total (c .before .before .before .before .before)) (c .before .before .before .before .if3 .left)))
+    cases.build-ok _ _ _ _ (sym (c .before .before .before .before .before .before .before .before .before .is-invalid .ensures) ∙ c .before .before .before .before .before .before .before .before .if1 .left) (c .before .before .before .before .before .before .before .if2 .left)
+    (subst (λ (n : ℕ). n ≤ length (a .out .now)) (total (c .before .before .before .before .before)) (c .before .before .before .before .if3 .left)) _ _ (total (c .before .before .before .before .before)) (c .before .before .write .ensures)
 
 pub build-spec : {M : Type 1} → statement M
 build-spec =

@@ -1,5 +1,4 @@
--- `darray::inner::matches` meets its contract: the invariant says that the words of the blocks before j are those of the index, and
--- that the next positions are those of the block j.
+-- `darray::inner::matches` meets its contract: the invariant says that the words of the blocks before j are those of the index.
 -- Assumes nothing.
 use borrow.Author.Needs.{needs}
 use borrow.Author.Tests.{not-true, not-false}
@@ -7,157 +6,177 @@ use mathlib.Core.Path.{_≡_, refl, sym, ap, ap₂, _∙_, subst}
 use Prim.Native.Nat.{ℕ, _+_, _-_, _*_, _/_, _^_, _≤_, _<_, min}
 use native.Mathlib.Numerals.{add-one}
 use native.Mathlib.Omega.{arith}
-use lib.ListN.{length, getD, length-replicate}
+use lib.Dec.{leb}
+use lib.ListN.{length, length-replicate}
 use Rattle.broadword.specs.Bits.{count}
+use Rattle.bit_vectors.specs.Vector.{bitOver}
 use Rattle.darray.specs.Positions.{positions}
-use Rattle.darray.specs.Index.{before, spill, indexWords}
-use Rattle.darray.specs.Pending.{Left}
+use Rattle.darray.specs.Index.{before, indexWords}
+use Rattle.darray.specs.Scan.{Position, Ahead}
 use Rattle.darray.proofs.Index.{Holds, before-next, before-le}
+use Rattle.darray.proofs.Flush.{Shows}
+use Rattle.darray.proofs.Blocks as block
 use Rattle.darray.proofs.Building as building
 use Rattle.darray.proofs.Matching as matching
 use Rattle.darray.proofs.inner.matches.Statement.{statement}
 use Rattle.darray.proofs.inner.matches.Tie as tie
 use Rattle.darray.proofs.inner.matches.Reads as reads
 use Rattle.darray.proofs.inner.matches.Lts as lts
+use Rattle.broadword.proofs.select_in_byte_table.Reads as select-in-byte-table-reads
 use Rattle.darray.proofs.pending.block_matches.Reads as block-matches-reads
-use Rattle.darray.proofs.pending.fill.Reads as fill-reads
+use Rattle.darray.proofs.pending.sample.Reads as sample-reads
 use Rattle.darray.proofs.pending.spill.Reads as spill-reads
-use Rattle.darray.proofs.pending.start.Reads as start-reads
 use Rattle.darray.proofs.scan.block_size.Reads as block-size-reads
+use Rattle.darray.proofs.scan.ends.Reads as ends-reads
 
 abbrev Inv-loop : tie.InvT-loop
-Inv-loop words len over-one index n blocks over-start a₀ from₀ over₀ j₀ a from over j =
-    (j ≤ blocks) × (over ≡ before (positions over-one words len) j) × (length a ≡ 1024)
-    × (j < blocks → Left over-one words from × (from .taken ≡ 1024 * j)) × Holds (positions over-one words len) index j
+Inv-loop words len over-one index n blocks over-start table a₀ at₀ over₀ j₀ a at over j =
+    (j ≤ blocks) × (over ≡ before (positions over-one words len) j) × (length a ≡ 1024) × Ahead (bitOver over-one words) at (1024 * j)
+    × Holds (positions over-one words len) index j
 
 abbrev μ-loop : tie.MeasureT-loop
-μ-loop words len over-one index n blocks over-start a₀ from₀ over₀ j₀ a from over j = blocks - j
+μ-loop words len over-one index n blocks over-start table a₀ at₀ over₀ j₀ a at over j = blocks - j
 
--- src/inner.rt:132:32
+-- src/inner.rt:134:32
 add-over-start : tie.Need-add-over-start Inv-loop μ-loop
 add-over-start c = let a = c .before .before .before .args in let h = building.sizes-lt (positions (a .over-one) (a .words .now) (a .len)) (a .s) (c .before .before .before .pre .0 .sized) (building.positions-lt (a .over-one) (a .words .now) (a .len) (c .before .before .before .pre .0 .few)) in omega arith
 
--- src/inner.rt:132:22
+-- src/inner.rt:134:22
 add-over-start-2 : tie.Need-add-over-start-2 Inv-loop μ-loop
 add-over-start-2 c = let a = c .before .before .before .args in let h = building.sizes-lt (positions (a .over-one) (a .words .now) (a .len)) (a .s) (c .before .before .before .pre .0 .sized) (building.positions-lt (a .over-one) (a .words .now) (a .len) (c .before .before .before .pre .0 .few)) in omega arith
 
--- src/inner.rt:134:9
-start-requires : tie.Need-start-requires Inv-loop μ-loop
-start-requires c κs = search needs
+-- src/inner.rt:135:17
+select-in-byte-table-requires : tie.Need-select-in-byte-table-requires Inv-loop μ-loop
+select-in-byte-table-requires c κs = search needs
 
--- src/inner.rt:137:5
+-- src/inner.rt:140:5
 loop-holds : tie.Need-loop-holds Inv-loop μ-loop
 unfolding before count
-loop-holds c =
-    let a = c .before .before .before .before .args in (
-      search needs,
-      refl,
-      length-replicate {A = ℕ} 1024 0,
-      λ h. (c .start .ensures .1 (building.some-words (a .over-one) (a .words .now) (a .len) (a .s) (length (a .index .now)) (c .before .before .before .before .pre .0) h), c .start .ensures .0),
-      building.holds-none _ _,
-    )
+loop-holds c = (search needs, refl, length-replicate {A = ℕ} 1024 0, record { counted = refl; to-come = search needs }, building.holds-none _ _)
 
--- src/inner.rt:138:13
+-- src/inner.rt:141:13
 block-size-requires : tie.Need-block-size-requires Inv-loop μ-loop
 block-size-requires c κs = let a = c .before .before .before .before .before .before .args in omega (arith, building.block-there (a .over-one) (a .words .now) (a .len) (a .s) (length (a .index .now)) (c .before .before .before .before .before .before .pre .0) (c .before .loop .j) (c .loop-test .taken))
 
--- src/inner.rt:139:13
-fill-requires : tie.Need-fill-requires Inv-loop μ-loop
-fill-requires c κs =
+-- src/inner.rt:142:13
+ends-requires : tie.Need-ends-requires Inv-loop μ-loop
+ends-requires c κs =
     let a = c .before .before .before .before .before .before .before .before .args in
     let l = c .before .before .before .loop in
-    let i = l .inv .3 (c .before .before .loop-test .taken) in (
+    (c .before .before .before .before .select-in-byte-table .ensures, l .inv .3, building.inside (a .over-one) (a .words .now) (a .len) (a .s) (length (a .index .now)) (c .before .before .before .before .before .before .before .before .pre .0) (l .j) (min 1024 (a .s .positions - 1024 * l .j)) (c .before .before .loop-test .taken) refl (1024 * l .j) refl, building.block-there (a .over-one) (a .words .now) (a .len) (a .s) (length (a .index .now)) (c .before .before .before .before .before .before .before .before .pre .0) (c .before .before .before .loop .j) (c .before .before .loop-test .taken))
+
+-- src/inner.rt:143:52
+mul-sample : tie.Need-mul-sample Inv-loop μ-loop
+mul-sample c =
+    let a = c .before .before .before .before .before .before .before .before .before .before .before .args in
+    omega (arith, building.block-there (a .over-one) (a .words .now) (a .len) (a .s) (length (a .index .now)) (c .before .before .before .before .before .before .before .before .before .before .before .pre .0) (c .before .before .before .before .before .before .loop .j) (c .before .before .before .before .before .loop-test .taken), c .before .before .before .before .before .before .before .before .before .before .before .pre .0 .sized .positions, building.positions-lt (a .over-one) (a .words .now) (a .len) (c .before .before .before .before .before .before .before .before .before .before .before .pre .0 .few))
+
+-- src/inner.rt:143:9
+sample-requires : tie.Need-sample-requires Inv-loop μ-loop
+sample-requires c κs =
+    let a = c .before .before .before .before .before .before .before .before .before .before .before .args in
+    let l = c .before .before .before .before .before .before .loop in
+    let z = c .before .before .before .before .block-size .ensures in
+    let h = building.block-there (a .over-one) (a .words .now) (a .len) (a .s) (length (a .index .now)) (c .before .before .before .before .before .before .before .before .before .before .before .pre .0) (c .before .before .before .before .before .before .loop .j) (c .before .before .before .before .before .loop-test .taken) in (
       l .inv .2,
-      omega (arith, c .before .block-size .ensures),
-      omega (arith, c .before .block-size .ensures, building.block-there (a .over-one) (a .words .now) (a .len) (a .s) (length (a .index .now)) (c .before .before .before .before .before .before .before .before .pre .0) (c .before .before .before .loop .j) (c .before .before .loop-test .taken)),
-      i .0,
-      building.inside (a .over-one) (a .words .now) (a .len) (a .s) (length (a .index .now)) (c .before .before .before .before .before .before .before .before .pre .0) (l .j) (c .before .block-size .result) (c .before .before .loop-test .taken) (c .before .block-size .ensures) (l .from .taken) (i .1),
+      omega arith,
+      omega arith,
+      block.span-rises (a .over-one) (a .words .now) (a .len) (a .s .positions) (building.positions-count (a .over-one) (a .words .now) (a .len) (a .s) (length (a .index .now)) (c .before .before .before .before .before .before .before .before .before .before .before .pre .0)) (c .before .before .before .before .before .before .loop .j) (c .before .before .ends .result) (building.block-there (a .over-one) (a .words .now) (a .len) (a .s) (length (a .index .now)) (c .before .before .before .before .before .before .before .before .before .before .before .pre .0) (c .before .before .before .before .before .before .loop .j) (c .before .before .before .before .before .loop-test .taken)) (c .before .before .ends .ensures),
+      c .before .before .before .before .before .before .before .select-in-byte-table .ensures,
+      c .before .before .ends .ensures .from,
+      subst (λ (x : ℕ). Position (bitOver (a .over-one) (a .words .now)) (1024 * l .j + (x - 1)) (c .before .before .ends .result .last)) (sym z) (c .before .before .ends .ensures .last),
+      building.inside (a .over-one) (a .words .now) (a .len) (a .s) (length (a .index .now)) (c .before .before .before .before .before .before .before .before .before .before .before .pre .0) (l .j) (c .before .before .before .before .block-size .result) (c .before .before .before .before .before .loop-test .taken) z (1024 * l .j) refl,
     )
 
-room : (c : tie.After-a2 Inv-loop μ-loop)
-    → (c .before .before .before .before .before .before .before .before .before .before .args .s .entries + 8 * c .before .before .before .before .before .loop .j < 2 ^ 64) × (c .before .before .before .before .before .before .before .before .before .before .args .s .entries + (c .before .before .before .before .before .before .before .before .before .before .args .s .lanes + 3) / 4 + c .before .before .before .before .before .loop .over < 2 ^ 64)
-room c =
-    let a = c .before .before .before .before .before .before .before .before .before .before .args in
-    let l = c .before .before .before .before .before .loop in
-    let h = building.flushable (a .over-one) (a .words .now) (a .len) (a .s) (length (a .index .now)) (c .before .before .before .before .before .before .before .before .before .before .pre .0) (l .j) (c .before .before .before .block-size .result) (c .before .before .before .before .loop-test .taken) (c .before .before .before .block-size .ensures) (c .before .fill .last .0) (l .from) (c .before .fill .result) (l .inv .3 (c .before .before .before .before .loop-test .taken) .1) (c .before .fill .ensures) (l .over) (l .inv .1) (a .index .now) refl in
-    (omega (arith, h .lanes-room, c .before .before .before .before .before .before .before .before .before .before .good), omega (arith, h .over-room, c .before .before .before .before .before .before .before .before .before .before .good))
+shown : (c : tie.After-sample Inv-loop μ-loop) → Shows (positions (c .before .before .before .before .before .before .before .before .before .before .before .before .args .over-one) (c .before .before .before .before .before .before .before .before .before .before .before .before .args .words .now) (c .before .before .before .before .before .before .before .before .before .before .before .before .args .len)) (c .before .before .before .before .before .before .before .loop .j) (c .sample .last .0)
+shown c =
+    let a = c .before .before .before .before .before .before .before .before .before .before .before .before .args in
+    let e = c .before .before .before .ends .result in
+    building.sampled-shows (a .over-one) (a .words .now) (a .len) (a .s) (length (a .index .now)) (c .before .before .before .before .before .before .before .before .before .before .before .before .pre .0) (c .before .before .before .before .before .before .before .loop .j) (c .before .before .before .before .before .block-size .result) (c .before .before .before .before .before .before .loop-test .taken) (c .before .before .before .before .before .block-size .ensures) (c .sample .last .0) (leb 65536 (e .last - e .first)) (block.wide-is (a .over-one) (a .words .now) (a .len) (a .s .positions) (building.positions-count (a .over-one) (a .words .now) (a .len) (a .s) (length (a .index .now)) (c .before .before .before .before .before .before .before .before .before .before .before .before .pre .0)) (c .before .before .before .before .before .before .before .loop .j) (c .before .before .before .ends .result) (building.block-there (a .over-one) (a .words .now) (a .len) (a .s) (length (a .index .now)) (c .before .before .before .before .before .before .before .before .before .before .before .before .pre .0) (c .before .before .before .before .before .before .before .loop .j) (c .before .before .before .before .before .before .loop-test .taken)) (c .before .before .before .ends .ensures)) (c .sample .ensures)
 
--- src/inner.rt:141:56
+room : (c : tie.After-a2 Inv-loop μ-loop)
+    → (c .before .before .before .before .before .before .before .before .before .before .before .before .before .args .s .entries + 8 * c .before .before .before .before .before .before .before .before .loop .j < 2 ^ 64) × (c .before .before .before .before .before .before .before .before .before .before .before .before .before .args .s .entries + (c .before .before .before .before .before .before .before .before .before .before .before .before .before .args .s .lanes + 3) / 4 + c .before .before .before .before .before .before .before .before .loop .over < 2 ^ 64)
+room c =
+    let a = c .before .before .before .before .before .before .before .before .before .before .before .before .before .args in
+    let l = c .before .before .before .before .before .before .before .before .loop in
+    let h = building.flushable (a .over-one) (a .words .now) (a .len) (a .s) (length (a .index .now)) (c .before .before .before .before .before .before .before .before .before .before .before .before .before .pre .0) (l .j) (c .before .before .before .before .before .before .block-size .result) (c .before .before .before .before .before .before .before .loop-test .taken) (c .before .before .before .before .before .before .block-size .ensures) (c .before .sample .last .0) (shown (c .before)) (l .over) (l .inv .1) (a .index .now) refl in
+    (omega (arith, h .lanes-room, c .before .before .before .before .before .before .before .before .before .before .before .before .before .good), omega (arith, h .over-room, c .before .before .before .before .before .before .before .before .before .before .before .before .before .good))
+
+-- src/inner.rt:144:56
 mul-block-matches : tie.Need-mul-block-matches Inv-loop μ-loop
 mul-block-matches c = omega (arith, room c)
 
--- src/inner.rt:141:47
+-- src/inner.rt:144:47
 add-block-matches : tie.Need-add-block-matches Inv-loop μ-loop
 add-block-matches c = omega (arith, room c)
 
--- src/inner.rt:141:69
+-- src/inner.rt:144:69
 add-block-matches-2 : tie.Need-add-block-matches-2 Inv-loop μ-loop
 add-block-matches-2 c = omega (arith, room c)
 
--- src/inner.rt:141:13
+-- src/inner.rt:144:13
 block-matches-requires : tie.Need-block-matches-requires Inv-loop μ-loop
 block-matches-requires c κs =
-    let a = c .before .before .before .before .before .before .before .before .before .before .args in
-    let l = c .before .before .before .before .before .loop in
-    building.flushable (a .over-one) (a .words .now) (a .len) (a .s) (length (a .index .now)) (c .before .before .before .before .before .before .before .before .before .before .pre .0) (l .j) (c .before .before .before .block-size .result) (c .before .before .before .before .loop-test .taken) (c .before .before .before .block-size .ensures) (c .before .fill .last .0) (l .from) (c .before .fill .result) (l .inv .3 (c .before .before .before .before .loop-test .taken) .1) (c .before .fill .ensures) (l .over) (l .inv .1) (a .index .now) refl
-
--- src/inner.rt:142:13
-returns : tie.Need-returns Inv-loop μ-loop
-returns c =
-    let a = c .before .before .before .before .before .before .before .before .before .before .before .before .args in
-    let l = c .before .before .before .before .before .before .before .loop in
-    matching.it-is-not (λ e. c .before .block-matches .ensures .no (not-true _ (c .if1 .taken)) (building.index-matches (a .over-one) (a .words .now) (a .len) (a .s) (length (a .index .now)) (c .before .before .before .before .before .before .before .before .before .before .before .before .pre .0) (l .j) (c .before .before .before .before .before .block-size .result) (c .before .before .before .before .before .before .loop-test .taken) (c .before .before .before .before .before .block-size .ensures) (c .before .before .before .fill .last .0) (l .from) (c .before .before .before .fill .result) (l .inv .3 (c .before .before .before .before .before .before .loop-test .taken) .1) (c .before .before .before .fill .ensures) (l .over) (l .inv .1) (a .index .now) e))
-
--- src/inner.rt:144:17
-spill-requires : tie.Need-spill-requires Inv-loop μ-loop
-spill-requires c κs =
     let a = c .before .before .before .before .before .before .before .before .before .before .before .before .before .args in
     let l = c .before .before .before .before .before .before .before .before .loop in
-    (omega (arith, c .before .before .before .before .before .before .block-size .ensures, building.block-there (a .over-one) (a .words .now) (a .len) (a .s) (length (a .index .now)) (c .before .before .before .before .before .before .before .before .before .before .before .before .before .pre .0) (c .before .before .before .before .before .before .before .before .loop .j) (c .before .before .before .before .before .before .before .loop-test .taken)), omega (arith, c .before .before .before .before .before .before .block-size .ensures), building.rising (a .over-one) (a .words .now) (a .len) (a .s) (length (a .index .now)) (c .before .before .before .before .before .before .before .before .before .before .before .before .before .pre .0) (l .j) (c .before .before .before .before .before .before .block-size .result) (c .before .before .before .before .before .before .before .loop-test .taken) (c .before .before .before .before .before .before .block-size .ensures) (c .before .before .before .before .fill .last .0) (l .from) (c .before .before .before .before .fill .result) (l .inv .3 (c .before .before .before .before .before .before .before .loop-test .taken) .1) (c .before .before .before .before .fill .ensures))
+    building.flushable (a .over-one) (a .words .now) (a .len) (a .s) (length (a .index .now)) (c .before .before .before .before .before .before .before .before .before .before .before .before .before .pre .0) (l .j) (c .before .before .before .before .before .before .block-size .result) (c .before .before .before .before .before .before .before .loop-test .taken) (c .before .before .before .before .before .before .block-size .ensures) (c .before .sample .last .0) (shown (c .before)) (l .over) (l .inv .1) (a .index .now) refl
+
+-- src/inner.rt:145:13
+returns : tie.Need-returns Inv-loop μ-loop
+returns c =
+    let a = c .before .before .before .before .before .before .before .before .before .before .before .before .before .before .before .args in
+    let l = c .before .before .before .before .before .before .before .before .before .before .loop in
+    matching.it-is-not (λ e. c .before .block-matches .ensures .no (not-true _ (c .if1 .taken)) (building.index-matches (a .over-one) (a .words .now) (a .len) (a .s) (length (a .index .now)) (c .before .before .before .before .before .before .before .before .before .before .before .before .before .before .before .pre .0) (l .j) (c .before .before .before .before .before .before .before .before .block-size .result) (c .before .before .before .before .before .before .before .before .before .loop-test .taken) (c .before .before .before .before .before .before .before .before .block-size .ensures) (c .before .before .before .sample .last .0) (shown (c .before .before .before)) (l .over) (l .inv .1) (a .index .now) e))
+
+-- src/inner.rt:147:17
+spill-requires : tie.Need-spill-requires Inv-loop μ-loop
+spill-requires c κs =
+    let a = c .before .before .before .before .before .before .before .before .before .before .before .before .before .before .before .before .args in
+    let l = c .before .before .before .before .before .before .before .before .before .before .before .loop in
+    let z = c .before .before .before .before .before .before .before .before .before .block-size .ensures in
+    let h = building.block-there (a .over-one) (a .words .now) (a .len) (a .s) (length (a .index .now)) (c .before .before .before .before .before .before .before .before .before .before .before .before .before .before .before .before .pre .0) (c .before .before .before .before .before .before .before .before .before .before .before .loop .j) (c .before .before .before .before .before .before .before .before .before .before .loop-test .taken) in
+    (omega arith, omega arith, building.rising (a .over-one) (a .words .now) (a .len) (a .s) (length (a .index .now)) (c .before .before .before .before .before .before .before .before .before .before .before .before .before .before .before .before .pre .0) (l .j) (c .before .before .before .before .before .before .before .before .before .block-size .result) (c .before .before .before .before .before .before .before .before .before .before .loop-test .taken) (c .before .before .before .before .before .before .before .before .before .block-size .ensures) (c .before .before .before .before .sample .last .0) (shown (c .before .before .before .before)))
 
 next-before : (c : tie.After-spill Inv-loop μ-loop)
-    → c .before .before .before .before .before .before .before .before .before .loop .over + c .spill .result ≡ before (positions (c .before .before .before .before .before .before .before .before .before .before .before .before .before .before .args .over-one) (c .before .before .before .before .before .before .before .before .before .before .before .before .before .before .args .words .now) (c .before .before .before .before .before .before .before .before .before .before .before .before .before .before .args .len)) (c .before .before .before .before .before .before .before .before .before .loop .j + 1)
+    → c .before .before .before .before .before .before .before .before .before .before .before .before .loop .over + c .spill .result ≡ before (positions (c .before .before .before .before .before .before .before .before .before .before .before .before .before .before .before .before .before .args .over-one) (c .before .before .before .before .before .before .before .before .before .before .before .before .before .before .before .before .before .args .words .now) (c .before .before .before .before .before .before .before .before .before .before .before .before .before .before .before .before .before .args .len)) (c .before .before .before .before .before .before .before .before .before .before .before .before .loop .j + 1)
 next-before c =
-    let a = c .before .before .before .before .before .before .before .before .before .before .before .before .before .before .args in
-    let l = c .before .before .before .before .before .before .before .before .before .loop in
+    let a = c .before .before .before .before .before .before .before .before .before .before .before .before .before .before .before .before .before .args in
+    let l = c .before .before .before .before .before .before .before .before .before .before .before .before .loop in
     let P = positions (a .over-one) (a .words .now) (a .len) in
-    ap₂ (λ (x y : ℕ). x + y) (l .inv .1) (c .spill .ensures ∙ building.spill-is (a .over-one) (a .words .now) (a .len) (a .s) (length (a .index .now)) (c .before .before .before .before .before .before .before .before .before .before .before .before .before .before .pre .0) (l .j) (c .before .before .before .before .before .before .before .block-size .result) (c .before .before .before .before .before .before .before .before .loop-test .taken) (c .before .before .before .before .before .before .before .block-size .ensures) (c .before .before .before .before .before .fill .last .0) (l .from) (c .before .before .before .before .before .fill .result) (l .inv .3 (c .before .before .before .before .before .before .before .before .loop-test .taken) .1) (c .before .before .before .before .before .fill .ensures))
+    ap₂ (λ (x y : ℕ). x + y) (l .inv .1) (c .spill .ensures ∙ building.spill-is (a .over-one) (a .words .now) (a .len) (a .s) (length (a .index .now)) (c .before .before .before .before .before .before .before .before .before .before .before .before .before .before .before .before .before .pre .0) (l .j) (c .before .before .before .before .before .before .before .before .before .before .block-size .result) (c .before .before .before .before .before .before .before .before .before .before .before .loop-test .taken) (c .before .before .before .before .before .before .before .before .before .before .block-size .ensures) (c .before .before .before .before .before .sample .last .0) (shown (c .before .before .before .before .before)))
     ∙ sym (ap (before P) (add-one (l .j)) ∙ before-next P (l .j))
 
--- src/inner.rt:144:9
+-- src/inner.rt:147:9
 add-over : tie.Need-add-over Inv-loop μ-loop
 add-over c =
-    let a = c .before .before .before .before .before .before .before .before .before .before .before .before .before .before .args in
+    let a = c .before .before .before .before .before .before .before .before .before .before .before .before .before .before .before .before .before .args in
     let P = positions (a .over-one) (a .words .now) (a .len) in
-    omega (arith, next-before c, before-le P (c .before .before .before .before .before .before .before .before .before .loop .j + 1), building.positions-lt (a .over-one) (a .words .now) (a .len) (c .before .before .before .before .before .before .before .before .before .before .before .before .before .before .pre .0 .few))
+    omega (arith, next-before c, before-le P (c .before .before .before .before .before .before .before .before .before .before .before .before .loop .j + 1), building.positions-lt (a .over-one) (a .words .now) (a .len) (c .before .before .before .before .before .before .before .before .before .before .before .before .before .before .before .before .before .pre .0 .few))
 
--- src/inner.rt:145:9
+-- src/inner.rt:150:9
 add-j : tie.Need-add-j Inv-loop μ-loop
 add-j c =
-    let a = c .before .before .before .before .before .before .before .before .before .before .before .before .before .before .args in
-    let h = building.sizes-lt (positions (a .over-one) (a .words .now) (a .len)) (a .s) (c .before .before .before .before .before .before .before .before .before .before .before .before .before .before .pre .0 .sized) (building.positions-lt (a .over-one) (a .words .now) (a .len) (c .before .before .before .before .before .before .before .before .before .before .before .before .before .before .pre .0 .few)) in
-    omega (arith, c .before .before .before .before .before .before .before .before .loop-test .taken)
+    let a = c .before .before .before .before .before .before .before .before .before .before .before .before .before .before .before .before .before .before .args in
+    let h = building.sizes-lt (positions (a .over-one) (a .words .now) (a .len)) (a .s) (c .before .before .before .before .before .before .before .before .before .before .before .before .before .before .before .before .before .before .pre .0 .sized) (building.positions-lt (a .over-one) (a .words .now) (a .len) (c .before .before .before .before .before .before .before .before .before .before .before .before .before .before .before .before .before .before .pre .0 .few)) in
+    omega (arith, c .before .before .before .before .before .before .before .before .before .before .before .before .loop-test .taken)
 
--- src/inner.rt:137:5
+-- src/inner.rt:140:5
 loop-less : tie.Need-loop-less Inv-loop μ-loop
-loop-less c = omega (arith, c .before .before .before .before .before .before .before .before .loop-test .taken)
+loop-less c = omega (arith, c .before .before .before .before .before .before .before .before .before .before .before .before .loop-test .taken)
 
--- src/inner.rt:137:5
+-- src/inner.rt:140:5
 loop-again : tie.Need-loop-again Inv-loop μ-loop
 loop-again c =
-    let a = c .before .before .before .before .before .before .before .before .before .before .before .before .before .before .args in
-    let l = c .before .before .before .before .before .before .before .before .before .loop in (
-      omega (arith, c .before .before .before .before .before .before .before .before .loop-test .taken),
-      next-before c,
-      c .before .before .before .before .before .fill .ensures .long,
-      λ h. (
-        c .before .before .before .before .before .fill .ensures .left,
-        c .before .before .before .before .before .fill .ensures .taken ∙ omega (arith, l .inv .3 (c .before .before .before .before .before .before .before .before .loop-test .taken) .1, c .before .before .before .before .before .before .before .block-size .ensures, building.block-there (a .over-one) (a .words .now) (a .len) (a .s) (length (a .index .now)) (c .before .before .before .before .before .before .before .before .before .before .before .before .before .before .pre .0) (l .j + 1) h),
-      ),
-      building.next-matches (a .over-one) (a .words .now) (a .len) (a .s) (length (a .index .now)) (c .before .before .before .before .before .before .before .before .before .before .before .before .before .before .pre .0) (l .j) (c .before .before .before .before .before .before .before .block-size .result) (c .before .before .before .before .before .before .before .before .loop-test .taken) (c .before .before .before .before .before .before .before .block-size .ensures) (c .before .before .before .before .before .fill .last .0) (l .from) (c .before .before .before .before .before .fill .result) (l .inv .3 (c .before .before .before .before .before .before .before .before .loop-test .taken) .1) (c .before .before .before .before .before .fill .ensures) (l .over) (l .inv .1) (a .index .now) (c .before .before .before .block-matches .ensures .yes (not-false _ (c .before .before .if1 .left))) (l .inv .4),
+    let a = c .before .before .before .before .before .before .before .before .before .before .before .before .before .before .before .before .before .before .args in
+    let l = c .before .before .before .before .before .before .before .before .before .before .before .before .before .loop in (
+      omega (arith, c .before .before .before .before .before .before .before .before .before .before .before .before .loop-test .taken),
+      next-before (c .before),
+      c .before .before .before .before .before .before .sample .ensures .long,
+      block.ahead-le _ _ _ _ (omega arith) (c .before .before .before .before .before .before .before .before .before .ends .ensures .next),
+      building.next-matches (a .over-one) (a .words .now) (a .len) (a .s) (length (a .index .now)) (c .before .before .before .before .before .before .before .before .before .before .before .before .before .before .before .before .before .before .pre .0) (l .j) (c .before .before .before .before .before .before .before .before .before .before .before .block-size .result) (c .before .before .before .before .before .before .before .before .before .before .before .before .loop-test .taken) (c .before .before .before .before .before .before .before .before .before .before .before .block-size .ensures) (c .before .before .before .before .before .before .sample .last .0) (shown (c .before .before .before .before .before .before)) (l .over) (l .inv .1) (a .index .now) (c .before .before .before .before .block-matches .ensures .yes (not-false _ (c .before .before .before .if1 .left))) (l .inv .4),
     )
 
--- src/inner.rt:126:1
+-- src/inner.rt:128:1
 returns-2 : tie.Need-returns-2 Inv-loop μ-loop
 returns-2 c =
     let a = c .before .before .before .before .before .before .args in
@@ -174,10 +193,12 @@ matches-spec =
     μ-loop
     add-over-start
     add-over-start-2
-    start-requires
+    select-in-byte-table-requires
     loop-holds
     block-size-requires
-    fill-requires
+    ends-requires
+    mul-sample
+    sample-requires
     mul-block-matches
     add-block-matches
     add-block-matches-2

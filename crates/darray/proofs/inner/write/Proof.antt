@@ -86,14 +86,14 @@ spill-requires : tie.Need-spill-requires Inv-loop μ-loop
 spill-requires c κs =
     let a = c .before .before .before .before .before .before .before .before .before .before .before .before .args in
     let l = c .before .before .before .before .before .before .loop in
-    (omega (arith, c .before .before .before .before .block-size .ensures, building.block-there (a .over-one) (a .words .now) (a .len) (a .s) (length (a .out .now)) (c .before .before .before .before .before .before .before .before .before .before .before .before .pre) (c .before .before .before .before .before .before .loop .j) (c .before .before .before .before .before .loop-test .taken)), omega (arith, c .before .before .before .before .block-size .ensures), building.rising (a .over-one) (a .words .now) (a .len) (a .s) (length (a .out .now)) (c .before .before .before .before .before .before .before .before .before .before .before .before .pre) (l .j) (c .before .before .before .before .block-size .result) (c .before .before .before .before .before .loop-test .taken) (c .before .before .before .before .block-size .ensures) (c .before .before .fill .last .0) (l .from) (c .before .before .fill .result) (l .inv .4 (c .before .before .before .before .before .loop-test .taken) .1) (c .before .before .fill .ensures))
+    (omega (arith, c .before .before .before .before .block-size .ensures, building.block-there (a .over-one) (a .words .now) (a .len) (a .s) (length (a .out .now)) (c .before .before .before .before .before .before .before .before .before .before .before .before .pre) (c .before .before .before .before .before .before .loop .j) (c .before .before .before .before .before .loop-test .taken)), omega (arith, c .before .before .before .before .block-size .ensures), building.rising (a .over-one) (a .words .now) (a .len) (a .s) (length (a .out .now)) (c .before .before .before .before .before .before .before .before .before .before .before .before .pre) (l .j) (c .before .before .before .before .block-size .result) (c .before .before .before .before .before .loop-test .taken) (c .before .before .before .before .block-size .ensures) (c .before .before .fill .last .0) (building.taken-shows (a .over-one) (a .words .now) (a .len) (a .s) (length (a .out .now)) (c .before .before .before .before .before .before .before .before .before .before .before .before .pre) (l .j) (c .before .before .before .before .block-size .result) (c .before .before .before .before .before .loop-test .taken) (c .before .before .before .before .block-size .ensures) (c .before .before .fill .last .0) (l .from) (c .before .before .fill .result) (l .inv .4 (c .before .before .before .before .before .loop-test .taken) .1) (c .before .before .fill .ensures)))
 
 room : (c : tie.After-flush-arg Inv-loop μ-loop)
     → (c .before .before .before .before .before .before .before .before .before .before .before .before .before .before .args .s .entries + 8 * c .before .before .before .before .before .before .before .before .loop .j < 2 ^ 64) × (c .before .before .before .before .before .before .before .before .before .before .before .before .before .before .args .s .entries + (c .before .before .before .before .before .before .before .before .before .before .before .before .before .before .args .s .lanes + 3) / 4 + c .before .before .before .before .before .before .before .before .loop .over < 2 ^ 64)
 room c =
     let a = c .before .before .before .before .before .before .before .before .before .before .before .before .before .before .args in
     let l = c .before .before .before .before .before .before .before .before .loop in
-    let h = building.flushable (a .over-one) (a .words .now) (a .len) (a .s) (length (a .out .now)) (c .before .before .before .before .before .before .before .before .before .before .before .before .before .before .pre) (l .j) (c .before .before .before .before .before .before .block-size .result) (c .before .before .before .before .before .before .before .loop-test .taken) (c .before .before .before .before .before .before .block-size .ensures) (c .before .before .before .before .fill .last .0) (l .from) (c .before .before .before .before .fill .result) (l .inv .4 (c .before .before .before .before .before .before .before .loop-test .taken) .1) (c .before .before .before .before .fill .ensures) (l .over) (l .inv .1) (l .out) (l .inv .2) in
+    let h = building.flushable (a .over-one) (a .words .now) (a .len) (a .s) (length (a .out .now)) (c .before .before .before .before .before .before .before .before .before .before .before .before .before .before .pre) (l .j) (c .before .before .before .before .before .before .block-size .result) (c .before .before .before .before .before .before .before .loop-test .taken) (c .before .before .before .before .before .before .block-size .ensures) (c .before .before .before .before .fill .last .0) (building.taken-shows (a .over-one) (a .words .now) (a .len) (a .s) (length (a .out .now)) (c .before .before .before .before .before .before .before .before .before .before .before .before .before .before .pre) (l .j) (c .before .before .before .before .before .before .block-size .result) (c .before .before .before .before .before .before .before .loop-test .taken) (c .before .before .before .before .before .before .block-size .ensures) (c .before .before .before .before .fill .last .0) (l .from) (c .before .before .before .before .fill .result) (l .inv .4 (c .before .before .before .before .before .before .before .loop-test .taken) .1) (c .before .before .before .before .fill .ensures)) (l .over) (l .inv .1) (l .out) (l .inv .2) in
     (omega (arith, h .lanes-room, l .inv .2, c .before .before .before .before .before .before .before .before .before .before .before .before .before .before .good), omega (arith, h .over-room, l .inv .2, c .before .before .before .before .before .before .before .before .before .before .before .before .before .before .good))
 
 -- src/inner.rt:116:45
@@ -113,7 +113,7 @@ flush-requires : tie.Need-flush-requires Inv-loop μ-loop
 flush-requires c κs =
     let a = c .before .before .before .before .before .before .before .before .before .before .before .before .before .before .args in
     let l = c .before .before .before .before .before .before .before .before .loop in
-    building.flushable (a .over-one) (a .words .now) (a .len) (a .s) (length (a .out .now)) (c .before .before .before .before .before .before .before .before .before .before .before .before .before .before .pre) (l .j) (c .before .before .before .before .before .before .block-size .result) (c .before .before .before .before .before .before .before .loop-test .taken) (c .before .before .before .before .before .before .block-size .ensures) (c .before .before .before .before .fill .last .0) (l .from) (c .before .before .before .before .fill .result) (l .inv .4 (c .before .before .before .before .before .before .before .loop-test .taken) .1) (c .before .before .before .before .fill .ensures) (l .over) (l .inv .1) (l .out) (l .inv .2)
+    building.flushable (a .over-one) (a .words .now) (a .len) (a .s) (length (a .out .now)) (c .before .before .before .before .before .before .before .before .before .before .before .before .before .before .pre) (l .j) (c .before .before .before .before .before .before .block-size .result) (c .before .before .before .before .before .before .before .loop-test .taken) (c .before .before .before .before .before .before .block-size .ensures) (c .before .before .before .before .fill .last .0) (building.taken-shows (a .over-one) (a .words .now) (a .len) (a .s) (length (a .out .now)) (c .before .before .before .before .before .before .before .before .before .before .before .before .before .before .pre) (l .j) (c .before .before .before .before .before .before .block-size .result) (c .before .before .before .before .before .before .before .loop-test .taken) (c .before .before .before .before .before .before .block-size .ensures) (c .before .before .before .before .fill .last .0) (l .from) (c .before .before .before .before .fill .result) (l .inv .4 (c .before .before .before .before .before .before .before .loop-test .taken) .1) (c .before .before .before .before .fill .ensures)) (l .over) (l .inv .1) (l .out) (l .inv .2)
 
 next-before : (c : tie.After-slice-known2 Inv-loop μ-loop)
     → c .before .before .before .before .before .before .before .before .before .before .before .loop .over + c .before .before .before .before .spill .result ≡ before (positions (c .before .before .before .before .before .before .before .before .before .before .before .before .before .before .before .before .before .args .over-one) (c .before .before .before .before .before .before .before .before .before .before .before .before .before .before .before .before .before .args .words .now) (c .before .before .before .before .before .before .before .before .before .before .before .before .before .before .before .before .before .args .len)) (c .before .before .before .before .before .before .before .before .before .before .before .loop .j + 1)
@@ -121,7 +121,7 @@ next-before c =
     let a = c .before .before .before .before .before .before .before .before .before .before .before .before .before .before .before .before .before .args in
     let l = c .before .before .before .before .before .before .before .before .before .before .before .loop in
     let P = positions (a .over-one) (a .words .now) (a .len) in
-    ap₂ (λ (x y : ℕ). x + y) (l .inv .1) (c .before .before .before .before .spill .ensures ∙ building.spill-is (a .over-one) (a .words .now) (a .len) (a .s) (length (a .out .now)) (c .before .before .before .before .before .before .before .before .before .before .before .before .before .before .before .before .before .pre) (l .j) (c .before .before .before .before .before .before .before .before .before .block-size .result) (c .before .before .before .before .before .before .before .before .before .before .loop-test .taken) (c .before .before .before .before .before .before .before .before .before .block-size .ensures) (c .before .before .before .before .before .before .before .fill .last .0) (l .from) (c .before .before .before .before .before .before .before .fill .result) (l .inv .4 (c .before .before .before .before .before .before .before .before .before .before .loop-test .taken) .1) (c .before .before .before .before .before .before .before .fill .ensures))
+    ap₂ (λ (x y : ℕ). x + y) (l .inv .1) (c .before .before .before .before .spill .ensures ∙ building.spill-is (a .over-one) (a .words .now) (a .len) (a .s) (length (a .out .now)) (c .before .before .before .before .before .before .before .before .before .before .before .before .before .before .before .before .before .pre) (l .j) (c .before .before .before .before .before .before .before .before .before .block-size .result) (c .before .before .before .before .before .before .before .before .before .before .loop-test .taken) (c .before .before .before .before .before .before .before .before .before .block-size .ensures) (c .before .before .before .before .before .before .before .fill .last .0) (building.taken-shows (a .over-one) (a .words .now) (a .len) (a .s) (length (a .out .now)) (c .before .before .before .before .before .before .before .before .before .before .before .before .before .before .before .before .before .pre) (l .j) (c .before .before .before .before .before .before .before .before .before .block-size .result) (c .before .before .before .before .before .before .before .before .before .before .loop-test .taken) (c .before .before .before .before .before .before .before .before .before .block-size .ensures) (c .before .before .before .before .before .before .before .fill .last .0) (l .from) (c .before .before .before .before .before .before .before .fill .result) (l .inv .4 (c .before .before .before .before .before .before .before .before .before .before .loop-test .taken) .1) (c .before .before .before .before .before .before .before .fill .ensures)))
     ∙ sym (ap (before P) (add-one (l .j)) ∙ before-next P (l .j))
 
 -- src/inner.rt:117:9
@@ -155,8 +155,8 @@ loop-again c =
         c .before .before .before .before .before .before .before .fill .ensures .left,
         c .before .before .before .before .before .before .before .fill .ensures .taken ∙ omega (arith, l .inv .4 (c .before .before .before .before .before .before .before .before .before .before .loop-test .taken) .1, c .before .before .before .before .before .before .before .before .before .block-size .ensures, building.block-there (a .over-one) (a .words .now) (a .len) (a .s) (length (a .out .now)) (c .before .before .before .before .before .before .before .before .before .before .before .before .before .before .before .before .before .pre) (l .j + 1) h),
       ),
-      building.next-holds (a .over-one) (a .words .now) (a .len) (a .s) (length (a .out .now)) (c .before .before .before .before .before .before .before .before .before .before .before .before .before .before .before .before .before .pre) (l .j) (c .before .before .before .before .before .before .before .before .before .block-size .result) (c .before .before .before .before .before .before .before .before .before .before .loop-test .taken) (c .before .before .before .before .before .before .before .before .before .block-size .ensures) (c .before .before .before .before .before .before .before .fill .last .0) (l .from) (c .before .before .before .before .before .before .before .fill .result) (l .inv .4 (c .before .before .before .before .before .before .before .before .before .before .loop-test .taken) .1) (c .before .before .before .before .before .before .before .fill .ensures) (l .over) (l .inv .1) (l .out) (l .inv .2) (c .before .before .flush .last .1 .0) (c .before .before .flush .ensures .1) (l .inv .5),
-      λ k h. building.next-past (a .over-one) (a .words .now) (a .len) (a .s) (length (a .out .now)) (c .before .before .before .before .before .before .before .before .before .before .before .before .before .before .before .before .before .pre) (l .j) (c .before .before .before .before .before .before .before .before .before .block-size .result) (c .before .before .before .before .before .before .before .before .before .before .loop-test .taken) (c .before .before .before .before .before .before .before .before .before .block-size .ensures) (c .before .before .before .before .before .before .before .fill .last .0) (l .from) (c .before .before .before .before .before .before .before .fill .result) (l .inv .4 (c .before .before .before .before .before .before .before .before .before .before .loop-test .taken) .1) (c .before .before .before .before .before .before .before .fill .ensures) (l .over) (l .inv .1) (l .out) (l .inv .2) (c .before .before .flush .last .1 .0) (c .before .before .flush .ensures .1) k h ∙ l .inv .6 k h,
+      building.next-holds (a .over-one) (a .words .now) (a .len) (a .s) (length (a .out .now)) (c .before .before .before .before .before .before .before .before .before .before .before .before .before .before .before .before .before .pre) (l .j) (c .before .before .before .before .before .before .before .before .before .block-size .result) (c .before .before .before .before .before .before .before .before .before .before .loop-test .taken) (c .before .before .before .before .before .before .before .before .before .block-size .ensures) (c .before .before .before .before .before .before .before .fill .last .0) (building.taken-shows (a .over-one) (a .words .now) (a .len) (a .s) (length (a .out .now)) (c .before .before .before .before .before .before .before .before .before .before .before .before .before .before .before .before .before .pre) (l .j) (c .before .before .before .before .before .before .before .before .before .block-size .result) (c .before .before .before .before .before .before .before .before .before .before .loop-test .taken) (c .before .before .before .before .before .before .before .before .before .block-size .ensures) (c .before .before .before .before .before .before .before .fill .last .0) (l .from) (c .before .before .before .before .before .before .before .fill .result) (l .inv .4 (c .before .before .before .before .before .before .before .before .before .before .loop-test .taken) .1) (c .before .before .before .before .before .before .before .fill .ensures)) (l .over) (l .inv .1) (l .out) (l .inv .2) (c .before .before .flush .last .1 .0) (c .before .before .flush .ensures .1) (l .inv .5),
+      λ k h. building.next-past (a .over-one) (a .words .now) (a .len) (a .s) (length (a .out .now)) (c .before .before .before .before .before .before .before .before .before .before .before .before .before .before .before .before .before .pre) (l .j) (c .before .before .before .before .before .before .before .before .before .block-size .result) (c .before .before .before .before .before .before .before .before .before .before .loop-test .taken) (c .before .before .before .before .before .before .before .before .before .block-size .ensures) (c .before .before .before .before .before .before .before .fill .last .0) (building.taken-shows (a .over-one) (a .words .now) (a .len) (a .s) (length (a .out .now)) (c .before .before .before .before .before .before .before .before .before .before .before .before .before .before .before .before .before .pre) (l .j) (c .before .before .before .before .before .before .before .before .before .block-size .result) (c .before .before .before .before .before .before .before .before .before .before .loop-test .taken) (c .before .before .before .before .before .before .before .before .before .block-size .ensures) (c .before .before .before .before .before .before .before .fill .last .0) (l .from) (c .before .before .before .before .before .before .before .fill .result) (l .inv .4 (c .before .before .before .before .before .before .before .before .before .before .loop-test .taken) .1) (c .before .before .before .before .before .before .before .fill .ensures)) (l .over) (l .inv .1) (l .out) (l .inv .2) (c .before .before .flush .last .1 .0) (c .before .before .flush .ensures .1) k h ∙ l .inv .6 k h,
     )
 
 -- src/inner.rt:99:1

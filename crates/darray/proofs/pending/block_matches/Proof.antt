@@ -68,7 +68,7 @@ positions-match-requires c κs =
 returns-3 : tie.Need-returns-3
 returns-3 c =
     let a = c .before .before .before .before .before .before .before .before .before .before .args in
-    matching.decides-by (c .positions-match .result) (c .positions-match .ensures)
+    matching.decides-by {A = Reads (a .index .now) (a .over-at) (λ i. getD (a .a .now) i 0) (c .before .spill .result)} (c .positions-match .result) (c .positions-match .ensures)
     (λ r. record {
       entry = c .before .before .before .before .if1 .left ∙ flush.entry-is (a .a .now) (a .n) (a .over) (c .before .before .before .before .before .entry .result) (c .before .before .before .before .before .before .before .before .overflows .result) (c .before .before .before .before .before .before .before .before .overflows .ensures) (c .before .before .before .before .before .entry .ensures);
       lane-words = c .before .before .before .lanes-match .ensures .yes (not-false _ (c .before .before .if2 .left));

@@ -36,7 +36,7 @@ element-copy-out-result-2 c = search needs
 
 -- src/pending.rt:121:5
 sub-result : tie.Need-sub-result
-sub-result c = c .before .before .before .before .pre .2 0 _ (omega arith) (c .before .before .before .if1 .left)
+sub-result c = c .before .before .before .before .pre .2 _ (c .before .before .before .if1 .left) .0
 
 -- src/pending.rt:110:1
 returns-3 : tie.Need-returns-3

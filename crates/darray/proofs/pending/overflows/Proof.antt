@@ -27,7 +27,7 @@ element-copy-out-is-wide-2 c = search needs
 
 -- src/pending.rt:91:5
 is-wide-requires : tie.Need-is-wide-requires
-is-wide-requires c κs = let p = c .before .before .pre in p .2 0 _ (omega arith) (omega arith)
+is-wide-requires c κs = let p = c .before .before .pre in p .2 0 (p .0) .1
 
 -- src/pending.rt:86:1
 returns : tie.Need-returns
