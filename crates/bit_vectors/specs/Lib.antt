@@ -1,0 +1,4 @@
+pub mod Inner
+pub mod Queries
+pub mod Vector
+pub mod Walk

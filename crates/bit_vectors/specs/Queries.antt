@@ -1,0 +1,113 @@
+-- What each call on a bit vector answers and leaves, document 01, "Odd spots" and "Refusals". Assumes nothing.
+use mathlib.Core.List.{List, _++_}
+use mathlib.Core.Bool.{Bool, true, false}
+use Prim.Native.Nat.{ℕ, _+_, _-_, _*_, _/_, _%_, _^_}
+use lib.Dec.{eqb, leb, ltb}
+use lib.ListN.{length, getD, set, take, drop}
+use Rattle.errors.specs.Refusal.{numberOf}
+use Rattle.errors.specs.Answer.{Answer, value, none, done, refused, Outcome, leaves, pick}
+use Rattle.broadword.specs.Bits.{bit, count}
+use Rattle.broadword.specs.Fields.{flag, word}
+use Rattle.broadword.specs.Places.{last, select}
+use Rattle.broadword.specs.declared.Found.{Found}
+use Rattle.broadword.specs.declared.Found.the-variants as found
+use Rattle.bit_vectors.specs.Vector.{bitAt, bitOver, wordsFor, invalid, numberWords, putBit, appended}
+use Rattle.bit_vectors.specs.declared.Altered.{Altered}
+use Rattle.bit_vectors.specs.declared.Altered.the-variants as altered
+use Rattle.bit_vectors.specs.declared.Pushed.{Pushed}
+use Rattle.bit_vectors.specs.declared.Pushed.the-variants as pushed
+use Rattle.bit_vectors.specs.declared.Word.{Word}
+use Rattle.bit_vectors.specs.declared.Word.the-variants as word-answer
+use Rattle.bit_vectors.specs.declared.Bit.{Bit}
+use Rattle.bit_vectors.specs.declared.Bit.the-variants as bit-answer
+use Rattle.bit_vectors.specs.declared.Count.{Count}
+use Rattle.bit_vectors.specs.declared.Count.the-variants as count-answer
+use Rattle.bit_vectors.specs.declared.Place.{Place}
+use Rattle.bit_vectors.specs.declared.Place.the-variants as place-answer
+
+-- ---- the cases of each answer, in document 01's terms
+
+abbrev pub altering : Altered → Answer
+altering altered.Done = done
+altering (altered.Refused e) = refused (numberOf e)
+
+abbrev pub pushing : Pushed → Answer
+pushing (pushed.Length n) = value n
+pushing (pushed.Refused e) = refused (numberOf e)
+
+abbrev pub wording : Word → Answer
+wording (word-answer.Value x) = value x
+wording word-answer.Nothing = none
+wording (word-answer.Refused e) = refused (numberOf e)
+
+abbrev pub bitting : Bit → Answer
+bitting (bit-answer.Is b) = value (flag b)
+bitting bit-answer.Nothing = none
+bitting (bit-answer.Refused e) = refused (numberOf e)
+
+abbrev pub counting : Count → Answer
+counting (count-answer.Ones n) = value n
+counting count-answer.Nothing = none
+counting (count-answer.Refused e) = refused (numberOf e)
+
+abbrev pub placing : Place → Answer
+placing (place-answer.At i) = value i
+placing place-answer.Nothing = none
+placing (place-answer.Refused e) = refused (numberOf e)
+
+-- a place that may be missing
+abbrev pub foundAt : Found → Answer
+foundAt (found.At i) = value i
+foundAt found.Nothing = none
+
+-- ---- questions
+
+module _ (ws : List ℕ) (len : ℕ) where
+  -- 13 comes first
+  unfoldable pub asked : Answer → Answer
+  asked a = pick (invalid ws len) (refused 13) a
+
+  unfoldable pub accessOf : ℕ → Answer
+  accessOf pos = asked (pick (ltb pos len) (value (bitAt ws pos)) none)
+
+  unfoldable pub getBitsOf : ℕ → ℕ → Answer
+  getBitsOf pos width = asked (pick (leb width 64) (pick (leb (pos + width) len) (value (word 1 (λ i. bitAt ws (pos + i)) width)) none) none)
+
+  -- the 64 bits from pos on: past the used words they are 0
+  unfoldable pub getWord64Of : ℕ → Answer
+  getWord64Of pos = asked (pick (ltb pos len) (value (word 1 (λ i. bitAt (take (wordsFor len) ws) (pos + i)) 64)) none)
+
+  unfoldable pub rank1Of : ℕ → Answer
+  rank1Of pos = asked (pick (leb pos len) (value (count (bitAt ws) pos)) none)
+
+  unfoldable pub numOnesOf : Answer
+  numOnesOf = asked (value (count (bitAt ws) len))
+
+  -- over the ones (true) or the zeros (false)
+  unfoldable pub selectOf : Bool → ℕ → Answer
+  selectOf b k = asked (foundAt (select (bitOver b ws) len k))
+
+  unfoldable pub predecessor1Of : ℕ → Answer
+  predecessor1Of pos = asked (pick (ltb pos len) (foundAt (last (bitAt ws) (pos + 1))) none)
+
+  -- ---- calls that alter words
+
+  unfoldable pub setBitOf : ℕ → Bool → Outcome
+  setBitOf pos b =
+      pick (invalid ws len) (leaves (refused 13) ws)
+      (pick (ltb pos len) (leaves done (set ws (pos / 64) (putBit (getD ws (pos / 64) 0) (pos % 64) (flag b)))) (leaves (refused 16) ws))
+
+  -- the lowest bits, as many as width says, are pushed
+  unfoldable pub pushOf : ℕ → ℕ → Outcome
+  pushOf bits width =
+      pick (invalid ws len) (leaves (refused 13) ws)
+      (pick (ltb 64 width) (leaves (refused 14) ws)
+      (pick (leb (2 ^ 64) (len + width)) (leaves (refused 15) ws)
+      (pick (ltb (length ws) (wordsFor (len + width))) (leaves (refused 15) ws)
+      (leaves (value (len + width)) (appended ws len (bits % 2 ^ width) width)))))
+
+-- the used words are written whole, as the words of 2 ^ len - 1 or of 0
+unfoldable pub fromBitOf : Bool → ℕ → List ℕ → Outcome
+fromBitOf b len ws =
+    pick (ltb (length ws) (wordsFor len)) (leaves (refused 13) ws)
+    (leaves done (numberWords (wordsFor len) (flag b * (2 ^ len - 1)) ++ drop (wordsFor len) ws))

@@ -1,0 +1,88 @@
+-- The unary walk. `from` is the first place not yet taken; `position` is the start, then the last place given, and the length once a none was
+-- given, which ends the walk. A step goes on from `from`: to the one (or the zero) that k of its kind stand before from there on. Assumes nothing.
+use mathlib.Core.Path.{_≡_}
+use mathlib.Core.List.{List}
+use mathlib.Core.Bool.{Bool, true, false}
+use Prim.Native.Nat.{ℕ, _+_, _-_, _*_, _/_, _%_, _^_, _≤_, _<_}
+use lib.Dec.{leb, ltb}
+use lib.ListN.{getD, take}
+use Rattle.errors.specs.Refusal.{numberOf}
+use Rattle.errors.specs.Answer.{Answer, value, none, refused, pick}
+use Rattle.broadword.specs.Bits.{bit, count}
+use Rattle.broadword.specs.Places.{select}
+use Rattle.broadword.specs.declared.Found.{Found}
+use Rattle.broadword.specs.declared.Found.the-variants as found
+use Rattle.bit_vectors.specs.Vector.{bitOver, wordsFor, invalid}
+use Rattle.bit_vectors.specs.Queries.{placing}
+use Rattle.bit_vectors.specs.declared.unary.Unary.{Unary}
+use Rattle.bit_vectors.specs.declared.unary.Stepped.{Stepped}
+use Rattle.bit_vectors.specs.declared.unary.Started.{Started}
+use Rattle.bit_vectors.specs.declared.unary.Started.the-variants as started
+
+-- of the word of `position`, the bits from the place `from` on
+unfoldable pub restOf : List ℕ → ℕ → ℕ → ℕ → ℕ
+restOf ws len position from = getD (take (wordsFor len) ws) (position / 64) 0 / 2 ^ (from - position / 64 * 64) * 2 ^ (from - position / 64 * 64)
+
+abbrev pub walkAt : List ℕ → ℕ → ℕ → ℕ → Unary
+walkAt ws len position from = record { position = position; from = from; buf = restOf ws len position from }
+
+-- how a walk begins: with its state, or with a refusal
+pub data Begun : Type 0 where
+  begun : Unary → Begun
+  refusedBy : ℕ → Begun
+
+abbrev pub starting : Started → Begun
+starting (started.Walk w) = begun w
+starting (started.Refused e) = refusedBy (numberOf e)
+
+unfoldable pub newOf : List ℕ → ℕ → ℕ → Begun
+newOf ws len start = pick (invalid ws len) (refusedBy 13) (pick (leb (wordsFor len) (start / 64)) (refusedBy 16) (begun (walkAt ws len start start)))
+
+-- what a step leaves: its answer and the walk
+pub record Step : Type 0 where
+  pub answer : Answer
+  pub walk : Unary
+
+abbrev pub step : Answer → Unary → Step
+step a w = record { answer = a; walk = w }
+
+abbrev pub stepping : Stepped → Step
+stepping r = step (placing (r .place)) (r .walk)
+
+-- a place is given, and taken (1) or not (0); a none ends the walk
+abbrev pub given : List ℕ → ℕ → ℕ → Found → Step
+given ws len taken (found.At p) = step (value p) (walkAt ws len p (p + taken))
+given ws len taken found.Nothing = step none (walkAt ws len len len)
+
+-- the walk stops on a place below the length, and else ends
+abbrev pub stopAt : List ℕ → ℕ → ℕ → Step
+stopAt ws len place = pick (ltb place len) (given ws len 0 (found.At place)) (given ws len 0 found.Nothing)
+
+module _ (ws : List ℕ) (len : ℕ) (w : Unary) where
+  unfoldable pub stepOf : Bool → ℕ → ℕ → Step
+  stepOf b taken k =
+      pick (invalid ws len) (step (refused 13) w)
+      (given ws len taken (select (bitOver b ws) len (count (bitOver b ws) (w .from) + k)))
+
+  abbrev pub nextOf : Step
+  nextOf = stepOf true 1 0
+
+  abbrev pub skip1Of : ℕ → Step
+  skip1Of k = stepOf true 0 k
+
+  abbrev pub skip0Of : ℕ → Step
+  skip0Of k = stepOf false 0 k
+
+  -- a walk over these bits, as `new` and each step leave it
+  pub record Walking : Type 0 where
+    pub ok : invalid ws len ≡ false
+    pub behind : w .position ≤ w .from
+    pub near : w .from ≤ w .position + 1
+    pub rest : w .buf ≡ restOf ws len (w .position) (w .from)
+
+-- what is ahead of a walk at `from`: the lowest one of x, which is left of the word `at`, and nothing where x has none
+pub record Ahead (ws : List ℕ) (len from at x : ℕ) : Type 0 where
+  pub small : x < 2 ^ 64
+  pub nothing : select (bit x) 64 0 ≡ found.Nothing → select (bitOver true ws) len (count (bitOver true ws) from + 0) ≡ found.Nothing
+  pub place : (t : ℕ) → select (bit x) 64 0 ≡ found.At t
+      → (at * 64 + t < len) × (select (bitOver true ws) len (count (bitOver true ws) from + 0) ≡ found.At (at * 64 + t)) × (x / 2 ^ (t + 1) * 2 ^ (t + 1) ≡ restOf ws len (at * 64 + t) (at * 64 + t + 1))

@@ -1,0 +1,11 @@
+pub mod Bytes
+pub mod Compare
+pub mod Count
+pub mod Fields
+pub mod Find
+pub mod Lowest
+pub mod Product
+pub mod Smear
+pub mod Spread
+pub mod Table
+pub mod Threshold

@@ -1,0 +1,59 @@
+-- The blocks of a bit vector's positions, by what a scan of its words finds. Assumes nothing.
+use mathlib.Core.Path.{_≡_, refl, sym, ap, ap₂, _∙_, subst}
+use mathlib.Core.List.{List}
+use mathlib.Core.Bool.{Bool}
+use Prim.Native.Nat.{ℕ, suc, _+_, _-_, _*_, _/_, _^_, _≤_, _<_, min}
+use native.Mathlib.Nat.{le-trans, lt-of-le-of-lt}
+use native.Mathlib.Omega.{arith}
+use lib.Dec.{leb}
+use lib.ListN.{length, getD}
+use Rattle.errors.specs.Answer.{pick}
+use Rattle.broadword.specs.Bits.{count}
+use Rattle.bit_vectors.specs.Vector.{bitOver}
+use Rattle.bit_vectors.proofs.Runs.{bitOver-le}
+use Rattle.darray.specs.Positions.{places, positions}
+use Rattle.darray.specs.Index.{pos, size, wide, spill}
+use Rattle.darray.specs.Scan.{Position, Ahead, Inside, Spans, lastOf}
+use Rattle.darray.specs.declared.scan.Cursor.{Cursor}
+use Rattle.darray.specs.declared.scan.Span.{Span}
+use Rattle.darray.proofs.Positions as places
+use Rattle.darray.proofs.Index as index
+
+pub ahead-le : (f : ℕ → ℕ) (c : Cursor) (j k : ℕ) → j ≤ k → Ahead f c j → Ahead f c k
+ahead-le f c j k h a = record { counted = a .counted; to-come = le-trans (a .to-come) h }
+
+pub inside-le : (f : ℕ → ℕ) (m j k : ℕ) → j ≤ k → Inside f m k → Inside f m j
+inside-le f m j k h i = record { bits = i .bits; room = i .room; few = i .few; there = lt-of-le-of-lt h (i .there) }
+
+module _ (b : Bool) (ws : List ℕ) (len n : ℕ) (e : n ≡ count (bitOver b ws) len) where
+  pub length-is : n ≡ length (positions b ws len)
+  length-is = e ∙ sym (places.length-places (bitOver b ws) (bitOver-le b ws) len)
+
+  pub inside : (m k : ℕ) → len ≤ m * 64 → len < 2 ^ 63 → k < n → Inside (bitOver b ws) m k
+  inside m k r s h = record { bits = len; room = r; few = omega arith; there = subst (λ (x : ℕ). k < x) e h }
+
+  pub pos-is : (k i : ℕ) → Position (bitOver b ws) k i → k < n → pos (positions b ws len) k ≡ i
+  unfolding pos
+  pos-is k i p h = places.place-is (bitOver b ws) (bitOver-le b ws) len k i (p .one) (p .before) (subst (λ (x : ℕ). k < x) e h)
+
+  module _ (j : ℕ) (s : Span) (h : 1024 * j < n) (p : Spans (bitOver b ws) n j s) where
+    pub first-is : pos (positions b ws len) (1024 * j) ≡ s .first
+    first-is = pos-is (1024 * j) (s .first) (p .first) h
+
+    pub last-is : pos (positions b ws len) (lastOf n j) ≡ s .last
+    last-is = pos-is (lastOf n j) (s .last) (p .last) (omega arith)
+
+    pub span-rises : s .first ≤ s .last
+    span-rises = omega (arith, first-is, last-is, index.rising b ws len (1024 * j) (lastOf n j) (omega arith) (omega (arith, length-is)))
+
+    pub size-is : min 1024 (n - 1024 * j) ≡ size (positions b ws len) j
+    unfolding size
+    size-is = ap (λ (m : ℕ). min 1024 (m - 1024 * j)) length-is
+
+    pub wide-is : leb 65536 (s .last - s .first) ≡ wide (positions b ws len) j
+    unfolding wide
+    wide-is = ap₂ (λ (x y : ℕ). leb 65536 (x - y)) (sym last-is ∙ ap (λ (z : ℕ). pos (positions b ws len) (1024 * j + (z - 1))) size-is) (sym first-is)
+
+    pub spill-is : pick (leb 65536 (s .last - s .first)) (min 1024 (n - 1024 * j)) 0 ≡ spill (positions b ws len) j
+    unfolding spill
+    spill-is = ap₂ (λ (w : Bool) (z : ℕ). pick w z 0) wide-is size-is

@@ -1,0 +1,133 @@
+-- The index, written block by block. Assumes nothing.
+use mathlib.Core.Path.{_≡_, refl, sym, ap, ap₂, _∙_, subst}
+use mathlib.Core.List.{List, _++_}
+use mathlib.Core.Bool.{Bool}
+use Prim.Native.Nat.{ℕ, suc, _+_, _-_, _*_, _/_, _^_, _≤_, _<_, min}
+use native.Mathlib.Nat.{not-suc-le-zero, lt-of-lt-of-le}
+use native.Mathlib.Decide.{decLt}
+use native.Mathlib.Omega.{arith}
+use lib.ListN.{length, getD, drop, length-append, length-drop, List·getD-append}
+use lib.Seq.{ext-getD, getD-append-add, getD-drop}
+use Rattle.broadword.specs.Bits.{bit, count}
+use Rattle.broadword.specs.Places.{select}
+use Rattle.bit_vectors.specs.Vector.{bitOver, wordOver, wordsFor}
+use Rattle.bit_vectors.proofs.Runs.{bitOver-le}
+use Rattle.darray.specs.Positions.{positions}
+use Rattle.darray.specs.Index.{pos, blocks, size, spill, before, lanes, laneWords, indexWords}
+use Rattle.darray.specs.Scan.{Position, Inside, Sized, Writable}
+use Rattle.darray.specs.Pending.{Left, Taken, blockSpill, flushed, Flushable}
+use Rattle.darray.specs.declared.inner.Sizes.{Sizes}
+use Rattle.darray.specs.declared.pending.Rest.{Rest}
+use Rattle.darray.proofs.Positions as places
+use Rattle.darray.proofs.Index as index
+use Rattle.darray.proofs.Index.{Holds}
+use Rattle.darray.proofs.Blocks as block
+use Rattle.darray.proofs.Counts as counts
+use Rattle.darray.proofs.Flush as flush
+
+-- at the start all of the first word is left
+pub all-left : (b : Bool) (ws : List ℕ) (w : ℕ) → w ≡ wordOver b (getD ws 0 0) → Left b ws (record { word = 0; left = w; taken = 0 })
+unfolding count
+all-left b ws w e = record { low = omega arith; high = omega arith; ones-left = λ k. ap₂ (λ (x i : ℕ). select (bit x) 64 i) e (let z : k ≡ 0 - 0 + k = omega arith in z) }
+
+pub holds-none : (P l : List ℕ) → Holds P l 0
+unfolding before count
+holds-none P l = record { entries = λ k h. absurd (not-suc-le-zero h); lane-words = λ t h g. absurd (not-suc-le-zero h); spilled = λ x h. absurd (not-suc-le-zero h) }
+
+pub holds-whole : (P l l′ : List ℕ) → length l′ ≡ length l → length (indexWords P) ≤ length l → Holds P l′ (blocks P) → ((k : ℕ) → length (indexWords P) ≤ k → getD l′ k 0 ≡ getD l k 0)
+    → l′ ≡ indexWords P ++ drop (length (indexWords P)) l
+holds-whole P l l′ same room h past =
+    ext-getD 0 l′ (indexWords P ++ drop (length (indexWords P)) l) (omega (arith, length-append (indexWords P) (drop (length (indexWords P)) l), length-drop (length (indexWords P)) l))
+    (λ i _. by i (decLt i (length (indexWords P))))
+  where
+    by : (i : ℕ) → Dec (i < length (indexWords P)) → getD l′ i 0 ≡ getD (indexWords P ++ drop (length (indexWords P)) l) i 0
+    by i (yes g) = index.holds-all P l′ h i g ∙ sym (List·getD-append (indexWords P) (drop (length (indexWords P)) l) 0 i g)
+    by i (no g) =
+        let k : ℕ = i - length (indexWords P) in
+        let e : length (indexWords P) + k ≡ i = omega arith in
+        past i (omega arith) ∙ ap (λ (m : ℕ). getD l m 0) (sym e) ∙ sym (getD-drop (length (indexWords P)) l k 0)
+        ∙ sym (getD-append-add (indexWords P) (drop (length (indexWords P)) l) k 0) ∙ ap (λ (m : ℕ). getD (indexWords P ++ drop (length (indexWords P)) l) m 0) e
+
+-- what is said of the sizes
+module _ (P : List ℕ) (s : Sizes) (z : Sized P s) where
+  pub lanes-start : s .entries + (s .lanes + 3) / 4 ≡ blocks P + laneWords P
+  unfolding laneWords
+  lanes-start = ap₂ (λ (x y : ℕ). x + (y + 3) / 4) (z .entries) (z .lanes)
+
+  pub index-length : s .entries + (s .lanes + 3) / 4 + s .overflow ≡ length (indexWords P)
+  index-length = ap₂ (λ (x y : ℕ). x + y) lanes-start (z .overflow) ∙ sym (index.length-index P)
+
+  pub sizes-lt : length P < 2 ^ 63 → (s .lanes + 3 < 2 ^ 64) × (s .entries + (s .lanes + 3) / 4 + s .overflow < 2 ^ 64)
+  unfolding blocks lanes
+  sizes-lt h = (omega (arith, z .lanes), omega (arith, z .lanes, z .entries, z .overflow, index.before-le P (blocks P)))
+
+pub positions-lt : (b : Bool) (ws : List ℕ) (len : ℕ) → len < 2 ^ 63 → length (positions b ws len) < 2 ^ 63
+positions-lt b ws len h = omega (arith, places.length-places (bitOver b ws) (bitOver-le b ws) len, counts.count-few b ws len)
+
+module _ (b : Bool) (ws : List ℕ) (len : ℕ) (s : Sizes) (m : ℕ) (w : Writable (positions b ws len) len (length ws) s m) where
+  pub positions-count : s .positions ≡ count (bitOver b ws) len
+  positions-count = w .sized .positions ∙ places.length-places (bitOver b ws) (bitOver-le b ws) len
+
+  -- a block's first position is there
+  pub block-there : (j : ℕ) → j < s .entries → 1024 * j < s .positions
+  unfolding blocks
+  block-there j h = omega (arith, w .sized .entries, w .sized .positions)
+
+  pub size-is : (j z : ℕ) → z ≡ min 1024 (s .positions - 1024 * j) → z ≡ size (positions b ws len) j
+  unfolding size
+  size-is j z e = e ∙ ap (λ (n : ℕ). min 1024 (n - 1024 * j)) (w .sized .positions)
+
+  -- where there is a block, there is a word
+  pub some-words : 0 < s .entries → 0 < length ws
+  some-words h = omega (arith, block-there 0 h, positions-count, counts.count-few b ws len, w .words)
+
+  -- the block j, as it was taken
+  module _ (j z : ℕ) (h : j < s .entries) (ez : z ≡ min 1024 (s .positions - 1024 * j)) where
+    pub inside : (k : ℕ) → k ≡ 1024 * j → Inside (bitOver b ws) (length ws) (k + (z - 1))
+    inside k e = block.inside b ws len (s .positions) positions-count (length ws) (k + (z - 1)) (omega (arith, w .words)) (w .few) (omega (arith, block-there j h))
+
+    pub there : j < blocks (positions b ws len)
+    there = subst (λ (x : ℕ). j < x) (w .sized .entries) h
+
+    module _ (a : List ℕ) (from r : Rest) (at : from .taken ≡ 1024 * j) (t : Taken b ws from z a r) where
+      stored : (k : ℕ) → k < size (positions b ws len) j → getD a k 0 ≡ pos (positions b ws len) (1024 * j + k)
+      stored k g =
+          let g′ : k < z = omega (arith, size-is j z ez) in
+          sym (block.pos-is b ws len (s .positions) positions-count (1024 * j + k) (getD a k 0)
+          (subst (λ (x : ℕ). Position (bitOver b ws) (x + k) (getD a k 0)) at (t .stored k g′)) (omega (arith, block-there j h)))
+
+      pub spill-is : blockSpill a z ≡ spill (positions b ws len) j
+      spill-is = ap (blockSpill a) (size-is j z ez) ∙ flush.spill-block (positions b ws len) j there a stored
+
+      pub rising : (i k : ℕ) → i ≤ k → k < z → getD a i 0 ≤ getD a k 0
+      rising i k g l =
+          omega (
+            arith,
+            stored i (omega (arith, size-is j z ez)),
+            stored k (omega (arith, size-is j z ez)),
+            index.rising b ws len (1024 * j + i) (1024 * j + k) (omega arith) (omega (arith, block-there j h, w .sized .positions)),
+          )
+
+      module _ (o : ℕ) (eo : o ≡ before (positions b ws len) j) (l : List ℕ) (el : length l ≡ m) where
+        room : length (indexWords (positions b ws len)) ≤ length l
+        room = omega (arith, w .room)
+
+        pub flushable : Flushable a z j (s .entries + 8 * j) o (s .entries + (s .lanes + 3) / 4 + o) (length l)
+        flushable = record {
+          some = omega (arith, block-there j h);
+          few = omega arith;
+          rising = rising;
+          entry-room = omega (arith, index.length-index (positions b ws len), there, room);
+          lanes-room = omega (arith, index.length-index (positions b ws len), flush.lanes-room (positions b ws len) j there, room, w .sized .entries, size-is j z ez);
+          over-room = omega (arith, flush.over-room (positions b ws len) j there a stored l room, lanes-start (positions b ws len) s (w .sized), ap (blockSpill a) (size-is j z ez));
+        }
+
+        module _ (l′ : List ℕ) (e : l′ ≡ flushed a z j (s .entries + 8 * j) o (s .entries + (s .lanes + 3) / 4 + o) l) where
+          is-after : l′ ≡ flushed a (size (positions b ws len) j) j (blocks (positions b ws len) + 8 * j) (before (positions b ws len) j) (blocks (positions b ws len) + laneWords (positions b ws len) + before (positions b ws len) j) l
+          is-after = cc (w .sized .entries, lanes-start (positions b ws len) s (w .sized), size-is j z ez)
+
+          pub next-holds : Holds (positions b ws len) l j → Holds (positions b ws len) l′ (j + 1)
+          next-holds s = subst (λ (x : List ℕ). Holds (positions b ws len) x (j + 1)) (sym is-after) (flush.holds-next (positions b ws len) j there a stored l room s)
+
+          pub next-past : (k : ℕ) → length (indexWords (positions b ws len)) ≤ k → getD l′ k 0 ≡ getD l k 0
+          next-past k g = ap (λ (x : List ℕ). getD x k 0) is-after ∙ flush.after-past (positions b ws len) j there a stored l room k g

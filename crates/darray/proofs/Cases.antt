@@ -1,0 +1,63 @@
+-- The cases of each call's definition, one law to a case. Assumes nothing.
+use mathlib.Core.Path.{_≡_, refl, sym, ap, ap₂, _∙_}
+use mathlib.Core.List.{List, _++_}
+use mathlib.Core.Bool.{Bool, true, false}
+use Prim.Native.Nat.{ℕ, _+_, _^_, _≤_, _<_}
+use borrow.Author.Tests.{le-leb, lt-leb, lt-ltb, le-ltb}
+use lib.ListN.{length, drop}
+use Rattle.errors.specs.Answer.{value, refused, leaves}
+use Rattle.broadword.specs.Fields.{flag}
+use Rattle.bit_vectors.specs.Vector.{invalid}
+use Rattle.darray.specs.Positions.{positions}
+use Rattle.darray.specs.Index.{blocks, lanes, overflow, indexWords}
+use Rattle.darray.specs.Queries.{Measure, sizes, unmeasured, measuring, measureOf, buildOf, validateOf, same}
+use Rattle.darray.specs.Scan.{Sized}
+use Rattle.darray.specs.declared.inner.Sizes.{Sizes}
+use Rattle.darray.specs.declared.inner.Measured.the-variants as measured
+use Rattle.darray.proofs.Index.{length-overflow}
+
+module _ (ws : List ℕ) (len : ℕ) (b : Bool) where
+  pub measure-13 : invalid ws len ≡ true → measureOf ws len b ≡ unmeasured 13
+  unfolding measureOf
+  measure-13 h = rw h
+
+  pub measure-2 : invalid ws len ≡ false → 2 ^ 63 ≤ len → measureOf ws len b ≡ unmeasured 2
+  unfolding measureOf
+  measure-2 h l = rw (h, le-leb (2 ^ 63) len l)
+
+  pub measure-ok : invalid ws len ≡ false → len < 2 ^ 63 → (s : Sizes) → Sized (positions b ws len) s → measureOf ws len b ≡ measuring (measured.Sizes s)
+  unfolding measureOf
+  measure-ok h l s z =
+      rw (h, lt-leb (2 ^ 63) len l)
+      (cc (z .positions, z .entries, z .lanes, z .overflow, length-overflow (positions b ws len) (blocks (positions b ws len))))
+
+  module _ (out : List ℕ) where
+    pub build-13 : invalid ws len ≡ true → buildOf ws len b out ≡ leaves (refused 13) out
+    unfolding buildOf
+    build-13 h = rw h
+
+    pub build-2 : invalid ws len ≡ false → 2 ^ 63 ≤ len → buildOf ws len b out ≡ leaves (refused 2) out
+    unfolding buildOf
+    build-2 h l = rw (h, le-leb (2 ^ 63) len l)
+
+    pub build-3 : invalid ws len ≡ false → len < 2 ^ 63 → length out < length (indexWords (positions b ws len)) → buildOf ws len b out ≡ leaves (refused 3) out
+    unfolding buildOf
+    build-3 h l g = rw (h, lt-leb (2 ^ 63) len l, lt-ltb (length out) (length (indexWords (positions b ws len))) g)
+
+    pub build-ok : invalid ws len ≡ false → len < 2 ^ 63 → length (indexWords (positions b ws len)) ≤ length out
+        → buildOf ws len b out ≡ leaves (value (length (indexWords (positions b ws len)))) (indexWords (positions b ws len) ++ drop (length (indexWords (positions b ws len))) out)
+    unfolding buildOf
+    build-ok h l g = rw (h, lt-leb (2 ^ 63) len l, le-ltb (length out) (length (indexWords (positions b ws len))) g)
+
+  module _ (index : List ℕ) where
+    pub validate-13 : invalid ws len ≡ true → validateOf ws len b index ≡ refused 13
+    unfolding validateOf
+    validate-13 h = rw h
+
+    pub validate-2 : invalid ws len ≡ false → 2 ^ 63 ≤ len → validateOf ws len b index ≡ refused 2
+    unfolding validateOf
+    validate-2 h l = rw (h, le-leb (2 ^ 63) len l)
+
+    pub validate-ok : invalid ws len ≡ false → len < 2 ^ 63 → validateOf ws len b index ≡ value (flag (same index (indexWords (positions b ws len))))
+    unfolding validateOf
+    validate-ok h l = rw (h, lt-leb (2 ^ 63) len l)

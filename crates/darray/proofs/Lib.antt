@@ -1,0 +1,11 @@
+pub mod Positions
+pub mod Index
+pub mod Counts
+pub mod Blocks
+pub mod Clear
+pub mod Taking
+pub mod Flush
+pub mod Building
+pub mod Cases
+pub mod Signed
+pub mod Through

@@ -1,0 +1,79 @@
+-- Positions taken one by one from the words. Assumes nothing.
+use mathlib.Core.Path.{_≡_, refl, sym, ap, _∙_, subst}
+use mathlib.Core.List.{List}
+use mathlib.Core.Bool.{Bool}
+use Prim.Native.Nat.{ℕ, suc, _+_, _-_, _*_, _^_, _≤_, _<_}
+use native.Mathlib.Nat.{le-refl, lt-of-not-le, le-of-eq, add-comm}
+use native.Mathlib.Decide.{decLe}
+use native.Mathlib.Omega.{arith}
+use lib.Pow.{pow-pos}
+use lib.ListN.{length, getD}
+use Rattle.broadword.specs.Bits.{bit, count, ones}
+use Rattle.broadword.specs.Places.{select}
+use Rattle.broadword.specs.declared.Found.the-variants.{At, Nothing}
+use Rattle.broadword.proofs.Count.{bit-le, bit-above, count-mono, count-zero}
+use Rattle.broadword.proofs.Find.{selected, select-at, select-none, select-some}
+use Rattle.bit_vectors.specs.Vector.{bitOver, wordOver}
+use Rattle.bit_vectors.proofs.Runs.{Fit}
+use Rattle.darray.specs.Scan.{Position, Inside}
+use Rattle.darray.specs.Pending.{Left}
+use Rattle.darray.specs.declared.pending.Rest.{Rest}
+use Rattle.darray.proofs.Counts as counts
+
+abbrev pub rest : ℕ → ℕ → ℕ → Rest
+rest i w k = record { word = i; left = w; taken = k }
+
+count-more : (f : ℕ → ℕ) (n : ℕ) → count f (suc n) ≡ count f n + f n
+unfolding count
+count-more f n = refl
+
+-- a word with no one has no place
+none-of-0 : (k : ℕ) → select (bit 0) 64 k ≡ Nothing
+none-of-0 k = select-none (bit 0) 64 k (omega (arith, count-zero (bit 0) 64 (λ i _. bit-above 0 i (pow-pos i))))
+
+-- where no place is found, no more than k ones stand
+few : (w k : ℕ) → select (bit w) 64 k ≡ Nothing → ones w 64 ≤ k
+few w k e = by (decLe (ones w 64) k)
+  where
+    by : Dec (ones w 64 ≤ k) → ones w 64 ≤ k
+    by (yes l) = l
+    by (no g) =
+        let s = select-some (bit w) 64 k (bit-le w) (lt-of-not-le g) in
+        let q = select-at (bit w) 64 k (s .0) (s .1 .within) (s .1 .one) (s .1 .before) in
+        let z : _≡_ {A = ℕ} 0 1 = cc in
+        omega arith
+
+module _ (b : Bool) (ws : List ℕ) (fit : Fit ws) (i w k : ℕ) (l : Left b ws (rest i w k)) where
+  -- nothing is left: the next word is taken from
+  pub left-next : w ≡ 0 → Left b ws (rest (i + 1) (wordOver b (getD ws (i + 1) 0)) k)
+  left-next z =
+      let n : ℕ = count (bitOver b ws) (i * 64) in
+      let v : ℕ = wordOver b (getD ws i 0) in
+      let s : select (bit v) 64 (k - n + 0) ≡ Nothing = sym (l .ones-left 0) ∙ ap (λ (x : ℕ). select (bit x) 64 0) z ∙ none-of-0 0 in
+      let e : k ≡ count (bitOver b ws) ((i + 1) * 64) = omega (arith, few v (k - n + 0) s, l .low, l .high, counts.count-up b ws fit n i (ones v 64) refl refl) in
+      record {
+        low = le-of-eq (sym e);
+        high = omega arith;
+        ones-left = λ d. let q : k - count (bitOver b ws) ((i + 1) * 64) + d ≡ d = omega arith in ap (select (bit (wordOver b (getD ws (i + 1) 0))) 64) (sym q);
+      }
+
+  module _ (s : ℕ) (at : At s ≡ select (bit w) 64 0) where
+    found : At s ≡ select (bit (wordOver b (getD ws i 0))) 64 (k - count (bitOver b ws) (i * 64))
+    found = at ∙ l .ones-left 0 ∙ ap (select (bit (wordOver b (getD ws i 0))) 64) (let q : k - count (bitOver b ws) (i * 64) + 0 ≡ k - count (bitOver b ws) (i * 64) = omega arith in q)
+
+    -- the lowest one that is left is the next position
+    pub left-position : Position (bitOver b ws) k (i * 64 + s)
+    left-position =
+        counts.hit-at b ws fit (record { word = i; before = count (bitOver b ws) (i * 64) }) k (record { counted = refl; to-come = l .low }) s found
+
+    pub left-taken : (v : ℕ) → ((d : ℕ) → select (bit v) 64 d ≡ select (bit w) 64 (d + 1)) → Left b ws (rest i v (k + 1))
+    left-taken v h =
+        let n : ℕ = count (bitOver b ws) (i * 64) in
+        let x : ℕ = wordOver b (getD ws i 0) in
+        let r = selected (bit x) 64 (k - n) s (sym found) in
+        let m : ones x (suc s) ≤ ones x 64 = count-mono (bit x) (suc s) 64 (r .within) in
+        record {
+          low = omega (arith, l .low);
+          high = omega (arith, l .low, r .before, r .one, count-more (bit x) s);
+          ones-left = λ d. h d ∙ l .ones-left (d + 1) ∙ ap (select (bit x) 64) (let q : k - n + (d + 1) ≡ k + 1 - n + d = omega (arith, l .low) in q);
+        }

@@ -1,0 +1,72 @@
+-- The pending positions of a block: how they are taken from the words, and what a flush writes of them. Assumes nothing.
+use mathlib.Core.Path.{_≡_}
+use mathlib.Core.List.{List}
+use mathlib.Core.Bool.{Bool}
+use Prim.Native.Nat.{ℕ, zero, suc, _+_, _-_, _*_, _/_, _^_, _≤_, _<_}
+use lib.Dec.{leb, ltb}
+use lib.ListN.{length, getD, set}
+use Rattle.errors.specs.Answer.{pick}
+use Rattle.broadword.specs.Bits.{bit, count, ones}
+use Rattle.broadword.specs.Fields.{word}
+use Rattle.broadword.specs.Places.{select}
+use Rattle.bit_vectors.specs.Vector.{bitOver, wordOver}
+use Rattle.darray.specs.Scan.{Position}
+use Rattle.darray.specs.declared.pending.Pending.{Pending}
+use Rattle.darray.specs.declared.pending.Rest.{Rest}
+
+-- the ones left of a word are its positions from the number `taken` on
+pub record Left (b : Bool) (ws : List ℕ) (r : Rest) : Type 0 where
+  pub low : count (bitOver b ws) (r .word * 64) ≤ r .taken
+  pub high : r .taken ≤ count (bitOver b ws) (r .word * 64) + ones (wordOver b (getD ws (r .word) 0)) 64
+  pub ones-left : (k : ℕ) → select (bit (r .left)) 64 k ≡ select (bit (wordOver b (getD ws (r .word) 0))) 64 (r .taken - count (bitOver b ws) (r .word * 64) + k)
+
+-- the next positions were taken
+pub record Taken (b : Bool) (ws : List ℕ) (from : Rest) (size : ℕ) (a : List ℕ) (r : Rest) : Type 0 where
+  pub long : length a ≡ 1024
+  pub stored : (k : ℕ) → k < size → Position (bitOver b ws) (from .taken + k) (getD a k 0)
+  pub left : Left b ws r
+  pub taken : r .taken ≡ from .taken + size
+
+-- ---- a block of the n pending positions in a
+
+-- positions that never fall
+abbrev pub Rising : List ℕ → ℕ → Type 0
+Rising a n = (j k : ℕ) → j ≤ k → k < n → getD a j 0 ≤ getD a k 0
+
+unfoldable pub blockWide : List ℕ → ℕ → Bool
+blockWide a n = leb 65536 (getD a (n - 1) 0 - getD a 0 0)
+
+unfoldable pub blockSpill : List ℕ → ℕ → ℕ
+blockSpill a n = pick (blockWide a n) n 0
+
+-- the entry, with o overflow positions before it
+unfoldable pub blockEntry : List ℕ → ℕ → ℕ → ℕ
+blockEntry a n o = pick (blockWide a n) (2 ^ 64 - (o + 1)) (getD a 0 0)
+
+unfoldable pub blockLane : List ℕ → ℕ → ℕ → ℕ
+blockLane a n i = pick (ltb (32 * i) n) (pick (blockWide a n) 65535 (getD a (32 * i) 0 - getD a 0 0)) 0
+
+unfoldable pub blockLaneWord : List ℕ → ℕ → ℕ → ℕ
+blockLaneWord a n t = word 16 (λ i. blockLane a n (4 * t + i)) 4
+
+-- the words of f 0, f 1, .., n of them, at the place at
+unfoldable pub put : List ℕ → ℕ → (ℕ → ℕ) → ℕ → List ℕ
+put l at f zero = l
+put l at f (suc n) = set (put l at f n) (at + n) (f n)
+
+-- what a flush of the block j leaves: its entry, its lanes from the place lanesAt on, and its overflow positions from the place overAt on
+unfoldable pub flushed : List ℕ → ℕ → ℕ → ℕ → ℕ → ℕ → List ℕ → List ℕ
+flushed a n j lanesAt o overAt l = put (put (set l j (blockEntry a n o)) lanesAt (blockLaneWord a n) ((n + 127) / 128)) overAt (λ i. getD a i 0) (blockSpill a n)
+
+-- a block, and words with room for it
+pub record Flushable (a : List ℕ) (n j lanesAt o overAt m : ℕ) : Type 0 where
+  pub some : 0 < n
+  pub few : n ≤ 1024
+  pub rising : Rising a n
+  pub entry-room : j < m
+  pub lanes-room : lanesAt + (n + 127) / 128 ≤ m
+  pub over-room : overAt + blockSpill a n ≤ m
+
+-- the pending positions, none of them pending any more
+abbrev pub emptied : Pending → Pending
+emptied p = record { positions = p .positions; count = 0 }

@@ -1,0 +1,153 @@
+// The select index over the ones or the zeros of a bit vector, as words: the entries of its blocks (block_inventory), the
+// distances of every 32nd position four to a word (subblock_inventory), and the positions of the blocks that are too wide for
+// distances of 16 bits (overflow_positions).
+ghost use mathlib.Core.Path.{_≡_};
+ghost use mathlib.Core.List.{_++_};
+ghost use Prim.Native.Nat.{_+_, _/_, _^_, _≤_, _<_};
+ghost use lib.ListN.{length, drop};
+ghost use Rattle.errors.specs.Answer.{leaves};
+ghost use Rattle.bit_vectors.specs.Vector.{wordsFor};
+ghost use Rattle.darray.specs.Positions.{positions};
+ghost use Rattle.darray.specs.Index.{indexWords};
+ghost use Rattle.darray.specs.Queries.{measuring, building, measureOf, buildOf};
+ghost use Rattle.darray.specs.Scan.{Sized, Writable};
+use crate::pending::empty;
+use crate::pending::fill;
+use crate::pending::flush;
+use crate::pending::spill;
+use crate::pending::start;
+use crate::scan::Cursor;
+use crate::scan::block_size;
+use crate::scan::count_positions;
+use crate::scan::ends;
+use crate::scan::spilled;
+use bit_vectors::words::is_invalid;
+use broadword::select_in_byte_table;
+use errors::Refusal;
+
+// Positions in a block.
+pub const BLOCK_LEN: usize = 1024;
+
+// Positions to a distance.
+pub const SUBBLOCK_LEN: usize = 32;
+
+// A block whose last position lies this far from its first overflows.
+pub const MAX_IN_BLOCK_DISTANCE: u64 = 1 << 16;
+
+// No memory holds as many bits.
+const MAX_LEN: usize = 1 << 63;
+
+// How many positions are indexed, and how many entries, distances and overflow positions the index has.
+pub struct Sizes {
+    pub positions: usize,
+    pub entries: usize,
+    pub lanes: usize,
+    pub overflow: usize,
+}
+
+pub enum Measured {
+    Sizes(Sizes),
+    Refused(Refusal),
+}
+
+// How many words were written.
+pub enum Built {
+    Words(usize),
+    Refused(Refusal),
+}
+
+// Whether an index is that of the bits.
+pub enum Validated {
+    Is(bool),
+    Refused(Refusal),
+}
+
+// The sizes of the index.
+fn sizes_of(words: &[u64], len: usize, over_one: bool) -> Sizes
+    requires { ⌜ ((wordsFor len ≤ length (now words)) × (len < 2 ^ 63)) ⌝ }
+    ensures { λ r. ⌜ Sized (positions «over_one» (now (words .entry)) len) r ⌝ }
+{
+    let table = select_in_byte_table();
+    let n = count_positions(words, len, over_one);
+    let blocks = (n + (BLOCK_LEN - 1)) / BLOCK_LEN;
+    let mut overflow: usize = 0;
+    let mut at = Cursor { word: 0, before: 0 };
+    let mut j: usize = 0;
+    while j < blocks {
+        let s = ends(&table, words, over_one, n, j, at);
+        overflow += spilled(s.first, s.last, block_size(n, j));
+        let next = s.next;
+        at = next;
+        j += 1;
+    }
+    Sizes {
+        positions: n,
+        entries: blocks,
+        lanes: (n + (SUBBLOCK_LEN - 1)) / SUBBLOCK_LEN,
+        overflow,
+    }
+}
+
+// How many words the index has.
+fn total(s: Sizes) -> usize
+    requires { ⌜ ((s .lanes + 3 < 2 ^ 64) × (s .entries + (s .lanes + 3) / 4 + s .overflow < 2 ^ 64)) ⌝ }
+    ensures { λ r. ⌜ r ≡ s .entries + (s .lanes + 3) / 4 + s .overflow ⌝ }
+{
+    s.entries + (s.lanes + 3) / 4 + s.overflow
+}
+
+// Writes the index of the bits, whose sizes are s, block by block.
+fn write(words: &[u64], len: usize, over_one: bool, s: Sizes, out: &mut [u64])
+    requires { ⌜ Writable (positions «over_one» (now words) len) len (length (now words)) s (length (now out)) ⌝ }
+    ensures { λ _. ⌜ now (out .exit) ≡ indexWords (positions «over_one» (now (words .entry)) len) ++ drop (length (indexWords (positions «over_one» (now (words .entry)) len))) (now (out .entry)) ⌝ }
+{
+    let n = s.positions;
+    let blocks = s.entries;
+    let over_start = blocks + (s.lanes + 3) / 4;
+    let mut p = empty();
+    let mut from = start(words, over_one);
+    let mut over: usize = 0;
+    let mut j: usize = 0;
+    while j < blocks {
+        let size = block_size(n, j);
+        let next = fill(&mut p.positions, words, over_one, from, size);
+        from = next;
+        p.count = size;
+        let more = spill(&p.positions, size);
+        p = flush(p, &mut *out, j, blocks + 8 * j, over, over_start + over);
+        over += more;
+        j += 1;
+    }
+}
+
+// The sizes of the index over the ones or the zeros of a bit vector.
+pub fn measure(words: &[u64], len: usize, over_one: bool) -> Measured
+    ensures { λ r. ⌜ measuring r ≡ measureOf (now (words .entry)) len «over_one» ⌝ }
+{
+    if is_invalid(words, len) {
+        return Measured::Refused(Refusal::InvalidBits);
+    }
+    if len >= MAX_LEN {
+        return Measured::Refused(Refusal::TooMany);
+    }
+    Measured::Sizes(sizes_of(words, len, over_one))
+}
+
+// Writes the index over the ones or the zeros of a bit vector to the front of `out`, and leaves its later words.
+pub fn build(words: &[u64], len: usize, over_one: bool, out: &mut [u64]) -> Built
+    ensures { λ r. ⌜ leaves (building r) (now (out .exit)) ≡ buildOf (now (words .entry)) len «over_one» (now (out .entry)) ⌝ }
+{
+    if is_invalid(words, len) {
+        return Built::Refused(Refusal::InvalidBits);
+    }
+    if len >= MAX_LEN {
+        return Built::Refused(Refusal::TooMany);
+    }
+    let s = sizes_of(words, len, over_one);
+    let n = total(s);
+    if out.len() < n {
+        return Built::Refused(Refusal::ShortBuffer);
+    }
+    write(words, len, over_one, s, &mut *out);
+    Built::Words(n)
+}

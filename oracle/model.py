@@ -1,0 +1,310 @@
+"""The console's sections Words and Bits, plainly, over lists of bits.
+
+Written from the document that says what is right, not from the Rust: nothing here is clever, and nothing is shared with the crate.
+"""
+
+LINE = 65_536
+LENT = 4_096
+TOP = 2**64
+BLOCK = 1_024
+SUBBLOCK = 32
+FAR = 65_536
+
+
+class Bad(Exception):
+    """A command out of form."""
+
+
+class Refused(Exception):
+    """A refusal, by its number."""
+
+
+def number(word):
+    """Decimal below 2^64, leading zeros allowed, no sign."""
+    if not word or any(c not in b"0123456789" for c in word):
+        raise Bad
+    digits = word.lstrip(b"0") or b"0"
+    if len(digits) > 20 or int(digits) >= TOP:
+        raise Bad
+    return int(digits)
+
+
+def choice(word):
+    value = number(word)
+    if value > 1:
+        raise Bad
+    return value
+
+
+def bits_of(word):
+    return [word >> i & 1 for i in range(64)]
+
+
+def used_words(length):
+    return length // 64 + (length % 64 != 0)
+
+
+def places(bits, b):
+    """The places that hold b, in order."""
+    return [i for i, x in enumerate(bits) if x == b]
+
+
+def kth(values, k):
+    return values[k] if k < len(values) else None
+
+
+def select_index(positions):
+    """Entries, 16-bit lanes and overflow of the select index over these positions."""
+    entries, lanes, overflow = [], [], []
+    for at in range(0, len(positions), BLOCK):
+        block = positions[at : at + BLOCK]
+        sampled = block[::SUBBLOCK]
+        if block[-1] - block[0] < FAR:
+            entries.append(block[0])
+            lanes += [p - block[0] for p in sampled]
+        else:
+            entries.append(-len(overflow) - 1)
+            lanes += [65_535 for _ in sampled]
+            overflow += block
+    return entries, lanes, overflow
+
+
+class Walk:
+    """The unary walk: it counts from the first place not yet taken, and a none ends it."""
+
+    def __init__(self, bits, start):
+        self.bits = bits
+        self.free = start
+        self.ended = False
+        self.place = start
+
+    def position(self):
+        return len(self.bits) if self.ended else self.place
+
+    def stop(self, b, k, taken):
+        found = [i for i in range(self.free, len(self.bits)) if self.bits[i] == b]
+        if self.ended or len(found) <= k:
+            self.ended = True
+            return None
+        self.place = found[k]
+        self.free = self.place + taken
+        return self.place
+
+    def step(self, name, k=0):
+        if name == "position":
+            return self.position()
+        if name == "next":
+            return self.stop(1, 0, 1)
+        return self.stop(1 if name == "skip1" else 0, k, 0)
+
+
+class Console:
+    """Lent words and a length, and the answer to a line."""
+
+    def __init__(self):
+        self.length = 0
+        self.words = []
+        self.known = None  # the bits, while nothing has altered them
+
+    def line(self, raw):
+        """The answer to a line without its line feed; None where nothing is written."""
+        if len(raw) > LINE:
+            return "bad command"
+        if raw == b"" or raw.startswith(b"#"):
+            return None
+        try:
+            name, args = self.parse(raw)
+        except Bad:
+            return "bad command"
+        try:
+            return shown(getattr(self, name)(*args))
+        except Refused as number_of:
+            return f"refused {number_of}"
+
+    def parse(self, raw):
+        """The command's name and its arguments, or Bad."""
+        words = raw.split(b" ")
+        if b"" in words:
+            raise Bad
+        name = words[0].decode("latin-1")
+        if name == "bits":
+            numbers = [number(w) for w in words[1:]]
+            if not 1 <= len(numbers) <= 1 + LENT:
+                raise Bad
+            return name, (numbers[0], numbers[1:])
+        if name == "unary":
+            if len(words) < 2:
+                raise Bad
+            return name, (number(words[1]), self.parse_steps(words[2:]))
+        if name not in FORMS or len(words) - 1 != len(FORMS[name]):
+            raise Bad
+        return name, [form(w) for form, w in zip(FORMS[name], words[1:])]
+
+    def parse_steps(self, words):
+        steps, at = [], 0
+        while at < len(words):
+            name = words[at].decode("latin-1")
+            if name in ("next", "position"):
+                steps.append((name,))
+                at += 1
+            elif name in ("skip1", "skip0"):
+                if at + 1 == len(words):
+                    raise Bad
+                steps.append((name, number(words[at + 1])))
+                at += 2
+            else:
+                raise Bad
+        return steps
+
+    # Words.
+
+    def popcount(self, w):
+        return sum(bits_of(w))
+
+    def lsb(self, w):
+        return kth(places(bits_of(w), 1), 0)
+
+    def msb(self, w):
+        ones = places(bits_of(w), 1)
+        return ones[-1] if ones else None
+
+    def select_in_word(self, w, k):
+        return kth(places(bits_of(w), 1), k)
+
+    # The vector.
+
+    def is_bad(self):
+        """Refusal 13: the length is over the words, or padding is set."""
+        used = used_words(self.length)
+        if used > len(self.words):
+            return True
+        return self.length % 64 != 0 and self.words[used - 1] >> self.length % 64 != 0
+
+    def vector(self):
+        """The bits below the length; 13 first."""
+        if self.is_bad():
+            raise Refused(13)
+        if self.known is None:
+            used = self.words[: used_words(self.length)]
+            self.known = [b for w in used for b in bits_of(w)][: self.length]
+        return self.known
+
+    def write(self, at, bits):
+        """Sets the bits from place `at` on; a word first used by this is overwritten whole."""
+        self.known = None
+        for i, b in enumerate(bits, at):
+            old = self.words[i // 64] if i % 64 or i < self.length else 0
+            self.words[i // 64] = old - (old >> i % 64 & 1) * 2 ** (i % 64) + b * 2 ** (i % 64)
+
+    def bits(self, length, words):
+        self.length, self.words, self.known = length, list(words), None
+        return "ok"
+
+    def dump(self):
+        return [self.length, ":", *self.words]
+
+    def from_bit(self, b, length):
+        if used_words(length) > len(self.words):
+            raise Refused(13)
+        for i in range(used_words(length)):
+            ones = min(64, length - 64 * i)
+            self.words[i] = b * (2**ones - 1)
+        self.length, self.known = length, None
+        return "ok"
+
+    def set_bit(self, p, b):
+        self.vector()
+        if p >= self.length:
+            raise Refused(16)
+        self.write(p, [b])
+        return "ok"
+
+    def push_bit(self, b):
+        return self.push_bits(b, 1)
+
+    def push_bits(self, v, width):
+        self.vector()
+        if width > 64:
+            raise Refused(14)
+        if self.length + width > 64 * len(self.words) or self.length + width >= TOP:
+            raise Refused(15)
+        self.write(self.length, bits_of(v)[:width])
+        self.length += width
+        return "ok"
+
+    def get_bits(self, p, width):
+        bits = self.vector()
+        if width > 64 or p + width > self.length:
+            return None
+        return sum(b * 2**i for i, b in enumerate(bits[p : p + width]))
+
+    def get_word64(self, p):
+        bits = self.vector()
+        if p >= self.length:
+            return None
+        return sum(b * 2**i for i, b in enumerate(bits[p : p + 64]))
+
+    def access(self, p):
+        return kth(self.vector(), p)
+
+    def rank1(self, p):
+        bits = self.vector()
+        return sum(bits[:p]) if p <= self.length else None
+
+    def select1(self, k):
+        return kth(places(self.vector(), 1), k)
+
+    def select0(self, k):
+        return kth(places(self.vector(), 0), k)
+
+    def predecessor1(self, p):
+        bits = self.vector()
+        ones = places(bits[: p + 1], 1)
+        return ones[-1] if p < self.length and ones else None
+
+    def num_ones(self):
+        return sum(self.vector())
+
+    def unary(self, start, steps):
+        bits = self.vector()
+        if start // 64 >= used_words(self.length):
+            raise Refused(16)
+        walk = Walk(bits, start)
+        return [walk.step(*step) for step in steps]
+
+    def index(self, b):
+        positions = places(self.vector(), b)
+        entries, lanes, overflow = select_index(positions)
+        return [len(positions), "|", *entries, "|", *lanes, "|", *overflow]
+
+    def index_select(self, b, k):
+        return kth(places(self.vector(), b), k)
+
+
+FORMS = {
+    "popcount": (number,),
+    "lsb": (number,),
+    "msb": (number,),
+    "select_in_word": (number, number),
+    "dump": (),
+    "from_bit": (choice, number),
+    "set_bit": (number, choice),
+    "push_bit": (choice,),
+    "push_bits": (number, number),
+    "get_bits": (number, number),
+    "get_word64": (number,),
+    "access": (number,),
+    "rank1": (number,),
+    "select1": (number,),
+    "select0": (number,),
+    "predecessor1": (number,),
+    "num_ones": (),
+    "index": (choice,),
+    "index_select": (choice, number),
+}
+
+
+def shown(answer):
+    if isinstance(answer, list):
+        return " ".join(shown(a) for a in answer)
+    return "none" if answer is None else str(answer)
