@@ -2049,7 +2049,7 @@ pub const SELECT_IN_BYTE: [u8; 2048] = [
     8,
     8,
     8,
-    7,
+    7, // b = 255, r = 7
 ];
 
 // At the top six bits of DEBRUIJN64 × 2^k, k.

@@ -15,7 +15,7 @@ use Rattle.bit_vectors.proofs.Runs.{bitOver-le}
 use Rattle.darray.specs.Positions.{positions}
 use Rattle.darray.specs.Index.{pos, blocks, size, spill, before, lanes, laneWords, indexWords}
 use Rattle.darray.specs.Scan.{Position, Inside, Sized, Writable}
-use Rattle.darray.specs.Pending.{Left, Taken, blockSpill, flushed, Flushable}
+use Rattle.darray.specs.Pending.{Left, Taken, blockSpill, flushed, Flushable, Matches}
 use Rattle.darray.specs.declared.inner.Sizes.{Sizes}
 use Rattle.darray.specs.declared.pending.Rest.{Rest}
 use Rattle.darray.proofs.Positions as places
@@ -24,6 +24,7 @@ use Rattle.darray.proofs.Index.{Holds}
 use Rattle.darray.proofs.Blocks as block
 use Rattle.darray.proofs.Counts as counts
 use Rattle.darray.proofs.Flush as flush
+use Rattle.darray.proofs.Matching as matching
 
 -- at the start all of the first word is left
 pub all-left : (b : Bool) (ws : List ℕ) (w : ℕ) → w ≡ wordOver b (getD ws 0 0) → Left b ws (record { word = 0; left = w; taken = 0 })
@@ -107,6 +108,20 @@ module _ (b : Bool) (ws : List ℕ) (len : ℕ) (s : Sizes) (m : ℕ) (w : Writa
             stored k (omega (arith, size-is j z ez)),
             index.rising b ws len (1024 * j + i) (1024 * j + k) (omega arith) (omega (arith, block-there j h, w .sized .positions)),
           )
+
+      module _ (o : ℕ) (eo : o ≡ before (positions b ws len) j) (l : List ℕ) where
+        over-at : s .entries + (s .lanes + 3) / 4 + o ≡ blocks (positions b ws len) + laneWords (positions b ws len) + before (positions b ws len) j
+        over-at = ap₂ (λ (x y : ℕ). x + y) (lanes-start (positions b ws len) s (w .sized)) eo
+
+        lanes-at : s .entries + 8 * j ≡ blocks (positions b ws len) + 8 * j
+        lanes-at = ap (λ (x : ℕ). x + 8 * j) (w .sized .entries)
+
+        pub index-matches : l ≡ indexWords (positions b ws len) → Matches a z j (s .entries + 8 * j) o (s .entries + (s .lanes + 3) / 4 + o) l
+        index-matches e =
+            matching.matches-at a j l (sym (size-is j z ez)) (sym lanes-at) (sym eo) (sym over-at) (matching.index-matches (positions b ws len) j there a stored l e)
+
+        pub next-matches : Matches a z j (s .entries + 8 * j) o (s .entries + (s .lanes + 3) / 4 + o) l → Holds (positions b ws len) l j → Holds (positions b ws len) l (j + 1)
+        next-matches e = matching.matches-next (positions b ws len) j there a stored l (matching.matches-at a j l (size-is j z ez) lanes-at eo over-at e)
 
       module _ (o : ℕ) (eo : o ≡ before (positions b ws len) j) (l : List ℕ) (el : length l ≡ m) where
         room : length (indexWords (positions b ws len)) ≤ length l

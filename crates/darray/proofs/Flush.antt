@@ -135,7 +135,7 @@ pub lanes-room : (P : List ℕ) (j : ℕ) → j < blocks P → 8 * j + (size P j
 unfolding blocks size laneWords lanes
 lanes-room P j h = omega arith
 
-lanes-all : (P : List ℕ) (j t : ℕ) → j < blocks P → t < 8 * (j + 1) → t < laneWords P → t < 8 * j + (size P j + 127) / 128
+pub lanes-all : (P : List ℕ) (j t : ℕ) → j < blocks P → t < 8 * (j + 1) → t < laneWords P → t < 8 * j + (size P j + 127) / 128
 unfolding blocks size laneWords lanes
 lanes-all P j t h g l = omega arith
 
@@ -253,3 +253,7 @@ module _ (a : List ℕ) (n j lanesAt o overAt : ℕ) (l l₁ l₂ : List ℕ) (w
 
   pub flush-length : l₂ ≡ put l₁ overAt (λ i. getD a i 0) s → length l₂ ≡ length l
   flush-length e = ap length e ∙ length-put l₁ overAt (λ i. getD a i 0) s ∙ lanes-length
+
+pub entry-is : (a : List ℕ) (n o v : ℕ) (w : Bool) → w ≡ blockWide a n → v ≡ pick w (2 ^ 64 - (o + 1)) (getD a 0 0) → v ≡ blockEntry a n o
+unfolding blockEntry
+entry-is a n o v w p q = q ∙ ap (λ (b : Bool). pick b (2 ^ 64 - (o + 1)) (getD a 0 0)) p

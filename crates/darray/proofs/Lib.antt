@@ -5,7 +5,9 @@ pub mod Blocks
 pub mod Clear
 pub mod Taking
 pub mod Flush
+pub mod Matching
 pub mod Building
+pub mod Built
 pub mod Cases
 pub mod Signed
 pub mod Through

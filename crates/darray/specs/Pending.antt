@@ -1,7 +1,7 @@
 -- The pending positions of a block: how they are taken from the words, and what a flush writes of them. Assumes nothing.
 use mathlib.Core.Path.{_≡_}
 use mathlib.Core.List.{List}
-use mathlib.Core.Bool.{Bool}
+use mathlib.Core.Bool.{Bool, true, false}
 use Prim.Native.Nat.{ℕ, zero, suc, _+_, _-_, _*_, _/_, _^_, _≤_, _<_}
 use lib.Dec.{leb, ltb}
 use lib.ListN.{length, getD, set}
@@ -70,3 +70,18 @@ pub record Flushable (a : List ℕ) (n j lanesAt o overAt m : ℕ) : Type 0 wher
 -- the pending positions, none of them pending any more
 abbrev pub emptied : Pending → Pending
 emptied p = record { positions = p .positions; count = 0 }
+
+-- r says whether A holds
+pub record Decides (r : Bool) (A : Type 0) : Type 0 where
+  pub yes : r ≡ true → A
+  pub no : r ≡ false → A → ⊥
+
+-- the words of l at the place at are f 0, f 1, .., n of them
+abbrev pub Reads : List ℕ → ℕ → (ℕ → ℕ) → ℕ → Type 0
+Reads l at f n = (i : ℕ) → i < n → getD l (at + i) 0 ≡ f i
+
+-- the words of l are those that a flush of the block j writes
+pub record Matches (a : List ℕ) (n j lanesAt o overAt : ℕ) (l : List ℕ) : Type 0 where
+  pub entry : getD l j 0 ≡ blockEntry a n o
+  pub lane-words : Reads l lanesAt (blockLaneWord a n) ((n + 127) / 128)
+  pub spilled : Reads l overAt (λ i. getD a i 0) (blockSpill a n)

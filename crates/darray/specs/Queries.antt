@@ -8,7 +8,9 @@ use lib.ListN.{length, drop}
 use Rattle.errors.specs.Refusal.{numberOf}
 use Rattle.errors.specs.Answer.{Answer, value, refused, Outcome, leaves, pick}
 use Rattle.broadword.specs.Fields.{flag}
-use Rattle.bit_vectors.specs.Vector.{invalid}
+use Rattle.broadword.specs.Places.{select}
+use Rattle.bit_vectors.specs.Queries.{foundAt}
+use Rattle.bit_vectors.specs.Vector.{bitOver, invalid}
 use Rattle.darray.specs.Positions.{positions}
 use Rattle.darray.specs.Index.{blocks, lanes, overflow, indexWords}
 use Rattle.darray.specs.declared.inner.Measured.{Measured}
@@ -67,3 +69,12 @@ module _ (ws : List ℕ) (len : ℕ) (b : Bool) where
       pick (invalid ws len) (refused 13)
       (pick (leb (2 ^ 63) len) (refused 2)
       (value (flag (same index (indexWords (positions b ws len))))))
+
+  -- the index is built, and the one (true) or the zero (false) that k of its kind stand before is found through it
+  unfoldable pub selectBuiltOf : List ℕ → ℕ → Outcome
+  selectBuiltOf out k =
+      pick (invalid ws len) (leaves (refused 13) out)
+      (pick (leb (2 ^ 63) len) (leaves (refused 2) out)
+      (pick (ltb (length out) (length (indexWords (positions b ws len)))) (leaves (refused 3) out)
+      (leaves (foundAt (select (bitOver b ws) len k))
+      (indexWords (positions b ws len) ++ drop (length (indexWords (positions b ws len))) out))))

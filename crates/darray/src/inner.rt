@@ -9,8 +9,10 @@ ghost use Rattle.errors.specs.Answer.{leaves};
 ghost use Rattle.bit_vectors.specs.Vector.{wordsFor};
 ghost use Rattle.darray.specs.Positions.{positions};
 ghost use Rattle.darray.specs.Index.{indexWords};
-ghost use Rattle.darray.specs.Queries.{measuring, building, measureOf, buildOf};
+ghost use Rattle.darray.specs.Pending.{Decides};
+ghost use Rattle.darray.specs.Queries.{measuring, building, validating, measureOf, buildOf, validateOf};
 ghost use Rattle.darray.specs.Scan.{Sized, Writable};
+use crate::pending::block_matches;
 use crate::pending::empty;
 use crate::pending::fill;
 use crate::pending::flush;
@@ -120,6 +122,31 @@ fn write(words: &[u64], len: usize, over_one: bool, s: Sizes, out: &mut [u64])
     }
 }
 
+// Whether the words are the index of the bits, whose sizes are s: block by block, with one block's positions in memory.
+fn matches(words: &[u64], len: usize, over_one: bool, s: Sizes, index: &[u64]) -> bool
+    requires { ⌜ (Writable (positions «over_one» (now words) len) len (length (now words)) s (length (now index)) × (length (now index) ≡ length (indexWords (positions «over_one» (now words) len)))) ⌝ }
+    ensures { λ r. ⌜ Decides r (now (index .entry) ≡ indexWords (positions «over_one» (now (words .entry)) len)) ⌝ }
+{
+    let n = s.positions;
+    let blocks = s.entries;
+    let over_start = blocks + (s.lanes + 3) / 4;
+    let mut a = [0u64; 1024];
+    let mut from = start(words, over_one);
+    let mut over: usize = 0;
+    let mut j: usize = 0;
+    while j < blocks {
+        let size = block_size(n, j);
+        let next = fill(&mut a, words, over_one, from, size);
+        from = next;
+        if !block_matches(&a, size, index, j, blocks + 8 * j, over, over_start + over) {
+            return false;
+        }
+        over += spill(&a, size);
+        j += 1;
+    }
+    true
+}
+
 // The sizes of the index over the ones or the zeros of a bit vector.
 pub fn measure(words: &[u64], len: usize, over_one: bool) -> Measured
     ensures { λ r. ⌜ measuring r ≡ measureOf (now (words .entry)) len «over_one» ⌝ }
@@ -150,4 +177,21 @@ pub fn build(words: &[u64], len: usize, over_one: bool, out: &mut [u64]) -> Buil
     }
     write(words, len, over_one, s, &mut *out);
     Built::Words(n)
+}
+
+// Whether an index is that over the ones or the zeros of a bit vector.
+pub fn validate(words: &[u64], len: usize, over_one: bool, index: &[u64]) -> Validated
+    ensures { λ r. ⌜ validating r ≡ validateOf (now (words .entry)) len «over_one» (now (index .entry)) ⌝ }
+{
+    if is_invalid(words, len) {
+        return Validated::Refused(Refusal::InvalidBits);
+    }
+    if len >= MAX_LEN {
+        return Validated::Refused(Refusal::TooMany);
+    }
+    let s = sizes_of(words, len, over_one);
+    if index.len() != total(s) {
+        return Validated::Is(false);
+    }
+    Validated::Is(matches(words, len, over_one, s, index))
 }

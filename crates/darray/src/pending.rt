@@ -8,7 +8,7 @@ ghost use Rattle.broadword.specs.Places.{select};
 ghost use Rattle.broadword.specs.declared.Found.the-variants.{At};
 ghost use Rattle.bit_vectors.specs.Vector.{bitOver};
 ghost use Rattle.darray.specs.Scan.{Inside};
-ghost use Rattle.darray.specs.Pending.{Left, Taken, Rising, blockWide, blockSpill, blockLane, blockLaneWord, put, flushed, Flushable, emptied};
+ghost use Rattle.darray.specs.Pending.{Left, Taken, Rising, blockWide, blockSpill, blockLane, blockLaneWord, put, flushed, Flushable, emptied, Decides, Reads, Matches};
 use crate::inner::BLOCK_LEN;
 use crate::inner::SUBBLOCK_LEN;
 use crate::scan::is_wide;
@@ -196,4 +196,58 @@ pub fn flush(
     let mut q = p;
     q.count = 0;
     q
+}
+
+// Whether the words at the place `at` are the distances.
+fn lanes_match(a: &[u64; 1024], n: usize, wide: bool, index: &[u64], at: usize) -> bool
+    requires { ⌜ ((n ≤ 1024) × Rising (now a) n × (wide ≡ blockWide (now a) n) × (at + (n + 127) / 128 ≤ length (now index))) ⌝ }
+    ensures { λ r. ⌜ Decides r (Reads (now (index .entry)) at (blockLaneWord (now (a .entry)) n) ((n + 127) / 128)) ⌝ }
+{
+    let words = (n + 127) / 128;
+    let mut t: usize = 0;
+    while t < words {
+        if index[at + t] != lane_word(a, n, wide, t) {
+            return false;
+        }
+        t += 1;
+    }
+    true
+}
+
+// Whether they are the first n positions.
+fn positions_match(a: &[u64; 1024], n: usize, index: &[u64], at: usize) -> bool
+    requires { ⌜ ((n ≤ 1024) × (at + n ≤ length (now index))) ⌝ }
+    ensures { λ r. ⌜ Decides r (Reads (now (index .entry)) at (λ i. getD (now (a .entry)) i 0) n) ⌝ }
+{
+    let mut i: usize = 0;
+    while i < n {
+        if index[at + i] != a[i] {
+            return false;
+        }
+        i += 1;
+    }
+    true
+}
+
+// Whether the index has the words that a flush of the block would write.
+pub fn block_matches(
+    a: &[u64; 1024],
+    n: usize,
+    index: &[u64],
+    block: usize,
+    lanes_at: usize,
+    over: usize,
+    over_at: usize,
+) -> bool
+    requires { ⌜ Flushable (now a) n block «lanes_at» over «over_at» (length (now index)) ⌝ }
+    ensures { λ r. ⌜ Decides r (Matches (now (a .entry)) n block «lanes_at» over «over_at» (now (index .entry))) ⌝ }
+{
+    let wide = overflows(a, n);
+    if index[block] != entry(a[0], wide, over) {
+        return false;
+    }
+    if !lanes_match(a, n, wide, index, lanes_at) {
+        return false;
+    }
+    positions_match(a, spill(a, n), index, over_at)
 }

@@ -1,0 +1,71 @@
+-- Document 01's "Odd spots" of broadword.rs, bit_vector.rs and unary.rs as rows of one table, and the theorem that covers the table.
+use mathlib.Core.Path.{_≡_, refl}
+use mathlib.Core.List.{List, [], _∷_, map}
+use mathlib.Core.Bool.{Bool, true, false}
+use Prim.Native.Nat.{ℕ, _-_, _^_}
+use Rattle.errors.specs.Answer.{Answer, value, none, done, refused, Outcome, leaves}
+use Rattle.broadword.specs.Bits.{bit, count}
+use Rattle.broadword.specs.Fields.{word}
+use Rattle.broadword.specs.Places.{last, select}
+use Rattle.bit_vectors.specs.Vector.{bitAt, bitOver, padding, invalid, numberWords, putBit, appended}
+use Rattle.bit_vectors.specs.Queries.{foundAt, asked, accessOf, getBitsOf, getWord64Of, rank1Of, numOnesOf, selectOf, predecessor1Of, setBitOf, pushOf, fromBitOf}
+use Rattle.bit_vectors.specs.Walk.{restOf, newOf, refusedBy, Begun, begun, walkAt, Step, stepOf, nextOf, skip1Of, skip0Of}
+use Rattle.bit_vectors.specs.declared.unary.Unary.{Unary}
+
+-- a question's answer by its definition, and what document 01 says
+pub record Row : Type 0 where
+  pub answer : Answer
+  pub expected : Answer
+
+abbrev row : Answer → Answer → Row
+row a e = record { answer = a; expected = e }
+
+-- word 11, length 4
+abbrev eleven : List ℕ
+eleven = 11 ∷ []
+
+-- a walk over it from its first place, and after one `next`
+abbrev fresh : Unary
+fresh = walkAt eleven 4 0 0
+
+abbrev after : Step → Unary
+after s = s .walk
+
+unfoldable pub rows : List Row
+rows =
+    -- lsb(0) and msb(0) are none; select_in_word is none when the word has k or fewer ones
+    row (foundAt (select (bit 0) 64 0)) none
+    ∷ row (foundAt (last (bit 0) 64)) none
+    ∷ row (foundAt (select (bit 67) 64 2)) (value 6)
+    ∷ row (foundAt (select (bit 67) 64 3)) none
+    -- get_bits: a width over 64, an end past the length, one that wraps in the Rust, width 0 at the length
+    ∷ row (getBitsOf eleven 4 0 65) none
+    ∷ row (getBitsOf eleven 4 3 2) none
+    ∷ row (getBitsOf eleven 4 (2 ^ 64 - 1) 1) none
+    ∷ row (getBitsOf eleven 4 4 0) (value 0)
+    ∷ row (getBitsOf eleven 4 1 3) (value 5)
+    -- rank1 at the length is the count of ones, past it none
+    ∷ row (rank1Of eleven 4 4) (value 3)
+    ∷ row (rank1Of eleven 4 5) none
+    -- select0 never reports padding; predecessor1 at or past the length is none
+    ∷ row (selectOf eleven 4 false 0) (value 2)
+    ∷ row (selectOf eleven 4 false 1) none
+    ∷ row (predecessor1Of eleven 4 2) (value 1)
+    ∷ row (predecessor1Of eleven 4 4) none
+    -- after `next` gave 0, `skip0(0)` gives 2
+    ∷ row (nextOf eleven 4 fresh .answer) (value 0)
+    ∷ row (skip0Of eleven 4 (after (nextOf eleven 4 fresh)) 0 .answer) (value 2)
+    -- `skip1(5)` fails, and the walk stays ended
+    ∷ row (skip1Of eleven 4 fresh 5 .answer) none
+    ∷ row (nextOf eleven 4 (after (skip1Of eleven 4 fresh 5)) .answer) none
+    -- the examples of refusals 13 to 16
+    ∷ row (numOnesOf (16 ∷ []) 4) (refused 13)
+    ∷ row (pushOf eleven 4 0 65 .answer) (refused 14)
+    ∷ row (pushOf eleven 64 1 1 .answer) (refused 15)
+    ∷ row (setBitOf eleven 4 4 true .answer) (refused 16)
+    ∷ []
+
+-- every row's answer is the expected one
+pub rows-right : map (λ (r : Row). r .answer) rows ≡ map (λ (r : Row). r .expected) rows
+unfolding rows bit count word last select bitAt bitOver padding invalid asked getBitsOf rank1Of numOnesOf selectOf predecessor1Of setBitOf pushOf restOf stepOf
+rows-right = refl
