@@ -1,0 +1,166 @@
+// One line of input: finds its section and answers it. Another section is one more question of `of_numbers`.
+ghost use Prim.Native.Nat.{_≤_};
+ghost use lib.ListN.{length};
+use crate::bits;
+use crate::bits::Told;
+use crate::index;
+use crate::line;
+use crate::line::Arguments;
+use crate::output;
+use crate::output::Reply;
+use crate::walk;
+use crate::words;
+
+// What the console holds besides its arrays.
+pub struct State {
+    // How many bytes of a line have gathered, and whether there were more than fit.
+    pub count: usize,
+    pub long: bool,
+    // The bits: how many words are lent, and the length.
+    pub lent: usize,
+    pub len: usize,
+    // How many bytes of output have gathered.
+    pub at: usize,
+    // Whether the input goes on.
+    pub going: bool,
+}
+
+// A line that is no command, as one of more than 65,536 bytes.
+pub fn bad(out: &mut [u8; 65536], s: State) -> State {
+    let mut t = s;
+    t.at = output::reply_line(out, s.at, Reply::Bad);
+    t
+}
+
+// A length, and no more words than there are.
+fn fits_bits(n: usize) -> bool {
+    if n < 1 {
+        return false;
+    }
+    n <= 4097
+}
+
+// `bits LEN W..`
+fn set(text: &[u8], end: usize, words: &mut [u64; 4096], out: &mut [u8; 65536], s: State) -> State
+    requires { ⌜ end ≤ length (now text) ⌝ }
+{
+    let r = line::numbers(text, end);
+    if !fits_bits(r.n) {
+        return bad(out, s);
+    }
+    let mut t = s;
+    stored(text, end, words);
+    t.lent = less_one(r.n);
+    t.len = line::size(r.a);
+    t.at = output::reply_line(out, s.at, Reply::Done);
+    t
+}
+
+fn less_one(n: usize) -> usize {
+    if n < 1 { 0 } else { n - 1 }
+}
+
+// The words after the length.
+fn stored(text: &[u8], end: usize, words: &mut [u64; 4096])
+    requires { ⌜ end ≤ length (now text) ⌝ }
+{
+    if end < text.len() {
+        line::store(text, line::word_end(text, end + 1), words);
+    }
+}
+
+// A command that takes a few numbers and has one answer.
+fn of_numbers(name: &[u8], r: Arguments, words: &mut [u64], len: usize) -> Told {
+    if !r.fit {
+        return Told {
+            reply: Reply::Bad,
+            len,
+        };
+    }
+    let w = words::answer(name, r);
+    if output::is_known(w) {
+        return Told { reply: w, len };
+    }
+    let b = bits::ask(name, r, words, len);
+    if output::is_known(b) {
+        return Told { reply: b, len };
+    }
+    bits::alter(name, r, words, len)
+}
+
+fn numbered(
+    name: &[u8],
+    r: Arguments,
+    words: &mut [u64],
+    out: &mut [u8; 65536],
+    s: State,
+) -> State {
+    let mut t = s;
+    let n = s.lent;
+    if words.len() < n {
+        return s;
+    }
+    let told = of_numbers(name, r, &mut words[..n], s.len);
+    let reply = told.reply;
+    t.len = told.len;
+    t.at = output::reply_line(out, s.at, reply);
+    t
+}
+
+// The numbers of `index`, one choice, and of `dump`, none.
+fn fits_list(k: usize, r: Arguments) -> bool {
+    if !r.fit {
+        return false;
+    }
+    if k == 2 {
+        return r.n == 1 && r.a < 2;
+    }
+    r.n == 0
+}
+
+// The commands that write a list.
+fn listed(
+    k: usize,
+    text: &[u8],
+    end: usize,
+    words: &[u64],
+    len: usize,
+    out: &mut [u8; 65536],
+    at: usize,
+) -> usize
+    requires { ⌜ end ≤ length (now text) ⌝ }
+{
+    if k == 1 {
+        return walk::answer(text, end, words, len, out, at);
+    }
+    let r = line::numbers(text, end);
+    if !fits_list(k, r) {
+        return output::reply_line(out, at, Reply::Bad);
+    }
+    if k == 2 {
+        return index::answer(r.a == 1, words, len, out, at);
+    }
+    bits::dump(words, len, out, at)
+}
+
+// Answers a line, but for an empty one and one that begins with '#'.
+pub fn answer(text: &[u8], words: &mut [u64; 4096], out: &mut [u8; 65536], s: State) -> State {
+    if text.len() == 0 {
+        return s;
+    }
+    if text[0] == b'#' {
+        return s;
+    }
+    let end = line::word_end(text, 0);
+    let name = &text[..end];
+    let k = line::place_in(b"bits unary index dump", name);
+    if k == 0 {
+        return set(text, end, words, out, s);
+    }
+    if k < 4 {
+        let mut t = s;
+        t.at = listed(k, text, end, line::first(words, s.lent), s.len, out, s.at);
+        return t;
+    }
+    numbered(name, line::numbers(text, end), words, out, s)
+}

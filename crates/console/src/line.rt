@@ -1,0 +1,138 @@
+// A line as words with one space between them, and its numbers.
+ghost use mathlib.Core.Path.{_≡_};
+ghost use Prim.Native.Nat.{_≤_};
+ghost use lib.ListN.{length, take};
+use decimal::Parsed;
+
+// The words after a command as numbers: whether all of them are, how many, and the first two.
+pub struct Arguments {
+    pub fit: bool,
+    pub n: usize,
+    pub a: u64,
+    pub b: u64,
+}
+
+// The first place from `from` on that holds the byte, or the end.
+pub fn find(text: &[u8], from: usize, b: u8) -> usize
+    requires { ⌜ from ≤ length (now text) ⌝ }
+    ensures { λ r. ⌜ from ≤ r ⌝ }
+    ensures { λ r. ⌜ r ≤ length (now (text .entry)) ⌝ }
+{
+    let mut i = from;
+    while i < text.len() {
+        if text[i] == b {
+            return i;
+        }
+        i += 1;
+    }
+    i
+}
+
+// Where the word that starts at `from` ends.
+pub fn word_end(line: &[u8], from: usize) -> usize
+    requires { ⌜ from ≤ length (now line) ⌝ }
+    ensures { λ r. ⌜ from ≤ r ⌝ }
+    ensures { λ r. ⌜ r ≤ length (now (line .entry)) ⌝ }
+{
+    find(line, from, b' ')
+}
+
+fn same(a: &[u8], b: &[u8]) -> bool {
+    if a.len() != b.len() {
+        return false;
+    }
+    let mut i: usize = 0;
+    while i < a.len() {
+        if a[i] != b[i] {
+            return false;
+        }
+        i += 1;
+    }
+    true
+}
+
+// Which word of the list the name is, counted from 0, or how many words the list has.
+pub fn place_in(list: &[u8], name: &[u8]) -> usize {
+    let mut k: usize = 0;
+    let mut at: usize = 0;
+    while at < list.len() {
+        let end = word_end(list, at);
+        if same(&list[at..end], name) {
+            return k;
+        }
+        k += 1;
+        at = end + 1;
+    }
+    k
+}
+
+fn if_at(n: usize, k: usize, x: u64, other: u64) -> u64 {
+    if n == k { x } else { other }
+}
+
+// The words after the one that ends at `end`.
+pub fn numbers(line: &[u8], end: usize) -> Arguments {
+    let mut n: usize = 0;
+    let mut a: u64 = 0;
+    let mut b: u64 = 0;
+    let mut at = end;
+    while at < line.len() {
+        let start = at + 1;
+        at = word_end(line, start);
+        let Parsed::Value(x) = decimal::parse(&line[start..at]) else {
+            return Arguments {
+                fit: false,
+                n: 0,
+                a: 0,
+                b: 0,
+            };
+        };
+        a = if_at(n, 0, x, a);
+        b = if_at(n, 1, x, b);
+        n += 1;
+    }
+    Arguments { fit: true, n, a, b }
+}
+
+fn value(text: &[u8]) -> u64 {
+    match decimal::parse(text) {
+        Parsed::Value(x) => x,
+        _ => 0,
+    }
+}
+
+fn put(words: &mut [u64; 4096], i: usize, x: u64) {
+    if i < 4096 {
+        words[i] = x;
+    }
+}
+
+// Stores the numbers after the word that ends at `end`.
+pub fn store(line: &[u8], end: usize, words: &mut [u64; 4096]) {
+    let mut i: usize = 0;
+    let mut at = end;
+    while at < line.len() {
+        let start = at + 1;
+        at = word_end(line, start);
+        put(words, i, value(&line[start..at]));
+        i += 1;
+    }
+}
+
+// The first n words, where there are so many.
+pub fn first(s: &[u64], n: usize) -> &[u64]
+    ensures { λ r. ⌜ now r ≡ take n (now (s .entry)) ⌝ }
+{
+    if n <= s.len() {
+        return &s[..n];
+    }
+    s
+}
+
+pub fn size(x: u64) -> usize {
+    x as usize
+}
+
+pub fn wide(x: usize) -> u64 {
+    x as u64
+}
