@@ -65,8 +65,16 @@ fn nanoseconds<T>(calls: usize, f: &mut impl FnMut() -> T) -> f64 {
     start.elapsed().as_nanos() as f64 / calls as f64
 }
 
+/// The words on the command line pick the rows that have them all.
+fn is_asked(what: &str) -> bool {
+    std::env::args().skip(1).all(|word| what.contains(&word))
+}
+
 /// The best of the repeats of both sides, and a line of the table.
 fn row<T, U>(what: &str, items: usize, target: Option<f64>, mut rust: impl FnMut() -> T, mut port: impl FnMut() -> U) {
+    if !is_asked(what) {
+        return;
+    }
     let slower = nanoseconds(1, &mut rust).max(nanoseconds(1, &mut port));
     let calls = ((AT_LEAST / slower).ceil() as usize).max(1);
     let (mut best_rust, mut best_port) = (f64::MAX, f64::MAX);
