@@ -1,0 +1,66 @@
+//! The same loops over the calls of the crate sucds.
+
+use sucds::bit_vectors::darray::inner::DArrayIndex;
+use sucds::bit_vectors::prelude::*;
+use sucds::bit_vectors::BitVector;
+use sucds::broadword;
+
+fn total(places: impl Iterator<Item = usize>) -> u64 {
+    places.fold(0, |sum: u64, p| sum.wrapping_add(p as u64))
+}
+
+#[inline(never)]
+pub fn popcount(words: &[u64]) -> u64 {
+    total(words.iter().map(|&w| broadword::popcount(w)))
+}
+
+#[inline(never)]
+pub fn lsb(words: &[u64]) -> u64 {
+    total(words.iter().map(|&w| broadword::lsb(w).unwrap_or(64)))
+}
+
+#[inline(never)]
+pub fn msb(words: &[u64]) -> u64 {
+    total(words.iter().map(|&w| broadword::msb(w).unwrap_or(64)))
+}
+
+#[inline(never)]
+pub fn select_in_word(words: &[u64], ks: &[usize]) -> u64 {
+    total(words.iter().zip(ks).map(|(&w, &k)| broadword::select_in_word(w, k).unwrap_or(64)))
+}
+
+#[inline(never)]
+pub fn rank1(bv: &BitVector, places: &[usize]) -> u64 {
+    total(places.iter().map(|&p| bv.rank1(p).unwrap_or(bv.len())))
+}
+
+#[inline(never)]
+pub fn select1(bv: &BitVector, ks: &[usize]) -> u64 {
+    total(ks.iter().map(|&k| bv.select1(k).unwrap_or(bv.len())))
+}
+
+#[inline(never)]
+pub fn walk(bv: &BitVector) -> u64 {
+    total(bv.unary_iter(0))
+}
+
+#[inline(never)]
+pub fn build(bv: &BitVector, over_one: bool) -> DArrayIndex {
+    DArrayIndex::new(bv, over_one)
+}
+
+#[inline(never)]
+pub fn select(bv: &BitVector, index: &DArrayIndex, ks: &[usize]) -> u64 {
+    // SAFETY: the driver passes the bit vector that the index was built from.
+    total(ks.iter().map(|&k| unsafe { index.select(bv, k) }.unwrap_or(bv.len())))
+}
+
+/// The index as the port writes it: entries, distances four to a word, overflow positions.
+pub fn index_words(index: &DArrayIndex) -> Vec<u64> {
+    let entries = index.block_inventory.iter().map(|&e| e as u64);
+    let lanes = index.subblock_inventory.chunks(4).map(|four| {
+        let lane = |(i, &x): (usize, &u16)| u64::from(x) << (16 * i);
+        four.iter().enumerate().map(lane).sum()
+    });
+    entries.chain(lanes).chain(index.overflow_positions.iter().copied()).collect()
+}

@@ -1,0 +1,29 @@
+-- `bench_exports::bench_walk` is safe and ends: `new` begins a walk. Assumes nothing.
+use borrow.Author.Needs.{needs}
+use mathlib.Core.Path.{_≡_, sym, ap, _∙_}
+use Rattle.bit_vectors.specs.Walk.{starting}
+use Rattle.bench_exports.proofs.Keeps.{new-keeps}
+use Rattle.bench_exports.proofs.bench_walk.Statement.{statement}
+use Rattle.bench_exports.proofs.bench_walk.Tie as tie
+
+new-requires : tie.Need-new-requires
+new-requires c κs = search needs
+
+enum-known-w : tie.Need-enum-known-w
+enum-known-w c = search needs
+
+enum-told : tie.Need-enum-told
+enum-told c = search needs
+
+returns : tie.Need-returns
+returns c = search needs
+
+walk-requires : tie.Need-walk-requires
+walk-requires c κs = new-keeps (c .before .before .before .before .before .args .words .now) (c .before .before .before .before .before .args .len) 0 (c .before .w .given .0 .0) (ap starting (sym (c .before .w .given .1)) ∙ c .before .before .before .new .ensures)
+
+returns-2 : tie.Need-returns-2
+returns-2 c = search needs
+
+pub bench-walk-spec : {M : Type 1} → statement M
+bench-walk-spec =
+    tie.close (tie.spec new-requires enum-known-w enum-told returns walk-requires returns-2)
