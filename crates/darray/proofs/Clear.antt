@@ -1,9 +1,8 @@
 -- A word without its lowest one: `w & (w - 1)`. Assumes nothing.
-use mathlib.Core.Path.{_≡_, refl, sym, ap, ap₂, _∙_, subst}
-use mathlib.Core.Logic.{⊎-elim}
+use mathlib.Core.Path.{_≡_, sym, ap, ap₂, _∙_, subst}
 use Prim.Native.Nat.{ℕ, zero, suc, _+_, _-_, _*_, _/_, _%_, _^_, _≤_, _<_}
-use native.Mathlib.Nat.{not-suc-le-zero, le-of-suc-le-suc, le-dest, add-zero, add-comm, mul-assoc, pow-suc, mul-div-cancel, pos-of-ne-zero, lt-of-not-le, eq-or-lt-of-le}
-use native.Mathlib.Decide.{decLt, decLe}
+use native.Mathlib.Nat.{not-suc-le-zero, le-of-suc-le-suc, le-dest, add-zero, mul-assoc, pow-suc, mul-div-cancel, pos-of-ne-zero, lt-of-not-le}
+use native.Mathlib.Decide.{decLt}
 use native.Mathlib.Omega.{arith}
 use lib.Dec.{lit<}
 use lib.Pow.{pow-pos, pow-add, high}
@@ -11,9 +10,9 @@ use lib.Count.{trailingZeros, under}
 use lib.Bits.{bitAnd, and-block, and-self, and-zero-l, and-zero-r}
 use Rattle.broadword.specs.Bits.{bit, count, ones}
 use Rattle.broadword.specs.Places.{select}
-use Rattle.broadword.specs.declared.Found.the-variants.{At, Nothing}
+use Rattle.broadword.specs.declared.Found.the-variants.{At}
 use Rattle.broadword.proofs.Count.{bit-le, bit-shift, count-add, count-same, count-zero}
-use Rattle.broadword.proofs.Find.{Selected, select-at, select-none, select-some}
+use Rattle.broadword.proofs.Find.{select-at, select-none, select-some}
 use Rattle.broadword.proofs.Lowest.{odd-times, bit-one, bit-below, short}
 
 -- ---- a run without its first one, which stands at t

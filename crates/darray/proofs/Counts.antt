@@ -1,9 +1,9 @@
 -- Counting and seeking the positions of a bit vector word by word. Assumes nothing.
-use mathlib.Core.Path.{_≡_, refl, sym, ap, ap₂, _∙_, subst}
+use mathlib.Core.Path.{_≡_, sym, ap, ap₂, _∙_}
 use mathlib.Core.List.{List}
 use mathlib.Core.Bool.{Bool}
 use Prim.Native.Nat.{ℕ, _+_, _-_, _*_, _/_, _%_, _^_, _≤_, _<_}
-use native.Mathlib.Nat.{le-refl, le-of-lt, le-dest, lt-of-lt-of-le, mod-lt, div-add-mod', lt-of-mul-lt-mul-right, add-zero, one-mul}
+use native.Mathlib.Nat.{le-of-lt, le-dest, lt-of-lt-of-le, mod-lt, div-add-mod', lt-of-mul-lt-mul-right, add-zero, one-mul}
 use native.Mathlib.Omega.{arith}
 use lib.Dec.{lit<}
 use lib.Pow.{pow-pos, pow-mono, shl-exact}
@@ -11,7 +11,7 @@ use lib.ListN.{length, getD}
 use Rattle.broadword.specs.Bits.{bit, count, ones}
 use Rattle.broadword.specs.Places.{select}
 use Rattle.broadword.specs.declared.Found.the-variants.{At, Nothing}
-use Rattle.broadword.proofs.Count.{bit-le, bit-above, bit-mod, count-add, count-le, count-mono, count-same, count-zero}
+use Rattle.broadword.proofs.Count.{bit-le, bit-above, bit-mod, count-add, count-le, count-same, count-zero}
 use Rattle.broadword.proofs.Find.{selected, select-at, select-some}
 use Rattle.bit_vectors.specs.Vector.{bitOver, wordOver}
 use Rattle.bit_vectors.proofs.Runs.{Fit, bitOver-le, bitOver-word, count-word, count-next}

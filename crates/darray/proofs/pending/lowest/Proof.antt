@@ -5,14 +5,10 @@ use lib.Count.{trailing-le}
 use Rattle.darray.proofs.Clear.{lowest-is}
 use Rattle.darray.proofs.pending.lowest.Statement.{statement}
 use Rattle.darray.proofs.pending.lowest.Tie as tie
-use Rattle.darray.proofs.pending.lowest.Reads as reads
-use Rattle.darray.proofs.pending.lowest.Lts as lts
 
--- src/pending.rt:38:5
 cast-result : tie.Need-cast-result
 cast-result c = omega (arith, trailing-le 64 (c .args .w))
 
--- src/pending.rt:34:1
 returns : tie.Need-returns
 returns c = lowest-is (c .args .w) (c .pre) (c .fits .w .fits)
 
