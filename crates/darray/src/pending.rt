@@ -10,7 +10,6 @@ ghost use Rattle.broadword.specs.declared.Found.the-variants.{At};
 ghost use Rattle.bit_vectors.specs.Vector.{bitOver};
 ghost use Rattle.darray.specs.Scan.{Position, Ahead, Inside};
 ghost use Rattle.darray.specs.Pending.{Left, Taken, Sampled, Rising, blockWide, blockSpill, blockLane, blockLaneWord, put, flushed, Flushable, emptied, Decides, Reads, Matches};
-use crate::inner::BLOCK_LEN;
 use crate::inner::SUBBLOCK_LEN;
 use crate::scan::Span;
 use crate::scan::find;
