@@ -1,16 +1,16 @@
 -- The index, written block by block. Assumes nothing.
-use mathlib.Core.Path.{_≡_, refl, sym, ap, ap₂, _∙_, subst}
+use mathlib.Core.Path.{_≡_, sym, ap, ap₂, _∙_, subst}
 use mathlib.Core.List.{List, _++_}
 use mathlib.Core.Bool.{Bool, true, false}
-use Prim.Native.Nat.{ℕ, suc, _+_, _-_, _*_, _/_, _^_, _≤_, _<_, min}
-use native.Mathlib.Nat.{not-suc-le-zero, lt-of-lt-of-le}
+use Prim.Native.Nat.{ℕ, _+_, _-_, _*_, _/_, _^_, _≤_, _<_, min}
+use native.Mathlib.Nat.{not-suc-le-zero}
 use native.Mathlib.Decide.{decLt}
 use native.Mathlib.Omega.{arith}
 use lib.ListN.{length, getD, drop, length-append, length-drop, List·getD-append}
 use lib.Seq.{ext-getD, getD-append-add, getD-drop}
 use Rattle.broadword.specs.Bits.{bit, count}
 use Rattle.broadword.specs.Places.{select}
-use Rattle.bit_vectors.specs.Vector.{bitOver, wordOver, wordsFor}
+use Rattle.bit_vectors.specs.Vector.{bitOver, wordOver}
 use Rattle.bit_vectors.proofs.Runs.{bitOver-le}
 use Rattle.darray.specs.Positions.{positions}
 use Rattle.darray.specs.Index.{pos, blocks, size, wide, spill, before, lanes, laneWords, indexWords}

@@ -1,16 +1,16 @@
 -- The cases of each call's definition, one law to a case. Assumes nothing.
-use mathlib.Core.Path.{_≡_, refl, sym, ap, ap₂, _∙_}
+use mathlib.Core.Path.{_≡_, ap₂}
 use mathlib.Core.List.{List, _++_}
 use mathlib.Core.Bool.{Bool, true, false}
-use Prim.Native.Nat.{ℕ, _+_, _^_, _≤_, _<_}
+use Prim.Native.Nat.{ℕ, _^_, _≤_, _<_}
 use borrow.Author.Tests.{le-leb, lt-leb, lt-ltb, le-ltb}
 use lib.ListN.{length, drop}
 use Rattle.errors.specs.Answer.{value, refused, leaves}
 use Rattle.broadword.specs.Fields.{flag}
 use Rattle.bit_vectors.specs.Vector.{invalid}
 use Rattle.darray.specs.Positions.{positions}
-use Rattle.darray.specs.Index.{blocks, lanes, overflow, indexWords}
-use Rattle.darray.specs.Queries.{Measure, sizes, unmeasured, measuring, measureOf, buildOf, validateOf, same}
+use Rattle.darray.specs.Index.{blocks, indexWords}
+use Rattle.darray.specs.Queries.{unmeasured, measuring, measureOf, buildOf, validateOf, same}
 use Rattle.darray.specs.Scan.{Sized}
 use Rattle.darray.specs.declared.inner.Sizes.{Sizes}
 use Rattle.darray.specs.declared.inner.Measured.the-variants as measured

@@ -1,9 +1,9 @@
 -- Counting and seeking the positions of a bit vector word by word. Assumes nothing.
-use mathlib.Core.Path.{_≡_, refl, sym, ap, ap₂, _∙_, subst}
+use mathlib.Core.Path.{_≡_, refl, sym, ap, ap₂, _∙_}
 use mathlib.Core.List.{List}
 use mathlib.Core.Bool.{Bool}
 use Prim.Native.Nat.{ℕ, _+_, _-_, _*_, _/_, _%_, _^_, _≤_, _<_}
-use native.Mathlib.Nat.{le-refl, le-of-lt, le-dest, lt-of-lt-of-le, mod-lt, div-add-mod', lt-of-mul-lt-mul-right, add-zero, one-mul}
+use native.Mathlib.Nat.{le-of-lt, le-dest, lt-of-lt-of-le, mod-lt, div-add-mod', lt-of-mul-lt-mul-right, add-zero, one-mul}
 use native.Mathlib.Omega.{arith}
 use lib.Dec.{lit<}
 use lib.Pow.{pow-pos, pow-mono, shl-exact}
@@ -11,7 +11,7 @@ use lib.ListN.{length, getD}
 use Rattle.broadword.specs.Bits.{bit, count, ones}
 use Rattle.broadword.specs.Places.{select}
 use Rattle.broadword.specs.declared.Found.the-variants.{At, Nothing}
-use Rattle.broadword.proofs.Count.{bit-le, bit-above, bit-mod, count-add, count-le, count-mono, count-same, count-zero}
+use Rattle.broadword.proofs.Count.{bit-le, bit-above, bit-mod, count-add, count-le, count-same, count-zero}
 use Rattle.broadword.proofs.Find.{selected, select-at, select-some}
 use Rattle.bit_vectors.specs.Vector.{bitOver, wordOver}
 use Rattle.bit_vectors.proofs.Runs.{Fit, bitOver-le, bitOver-word, count-word, count-next}
@@ -79,3 +79,10 @@ position-lt f m k i n p = lt-of-lt-of-le (below f i (n .bits) (omega (arith, p .
 -- nor does the word of a position that is inside
 pub word-le : (f : ℕ → ℕ) (m k i : ℕ) → count f (i * 64) ≤ k → Inside f m k → i * 64 ≤ 2 ^ 63
 word-le f m k i h n = le-of-lt (lt-of-lt-of-le (below f (i * 64) (n .bits) (omega (arith, n .there))) (n .few))
+
+-- a cursor at the word of the position with the number m, which stands at p: c of the word's ones stand below it
+pub cursor-at : (b : Bool) (ws : List ℕ) → Fit ws → (m p c : ℕ) → Position (bitOver b ws) m p → c ≡ ones (wordOver b (getD ws (p / 64) 0) % 2 ^ (p % 64)) 64
+    → Ahead (bitOver b ws) (record { word = p / 64; before = m - c }) m
+cursor-at b ws fit m p c q e =
+    let s = count-part b ws fit p (count (bitOver b ws) (p / 64 * 64)) c refl e in
+    record { counted = omega (arith, q .before); to-come = omega arith }

@@ -1,23 +1,23 @@
 -- What a flush writes: the laws of `put` and of a block of pending positions, and that it makes the words of one block more the index's.
 -- Assumes nothing.
-use mathlib.Core.Path.{_≡_, refl, sym, ap, ap₂, _∙_, subst}
+use mathlib.Core.Path.{_≡_, refl, sym, ap, ap₂, _∙_}
 use mathlib.Core.List.{List}
 use mathlib.Core.Bool.{Bool, true, false}
 use mathlib.Core.Logic.{_⊎_, ⊎-elim}
-use Prim.Native.Nat.{ℕ, zero, suc, _+_, _-_, _*_, _/_, _%_, _^_, _≤_, _<_, min, zero-le}
-use native.Mathlib.Nat.{le-refl, not-suc-le-zero, eq-or-lt-of-le, le-of-suc-le-suc, le-step, lt-suc-self}
+use Prim.Native.Nat.{ℕ, zero, suc, _+_, _-_, _*_, _/_, _^_, _≤_, _<_, zero-le}
+use native.Mathlib.Nat.{le-refl, not-suc-le-zero, eq-or-lt-of-le, le-of-suc-le-suc}
 use native.Mathlib.Decide.{decLt}
 use native.Mathlib.Numerals.{add-one}
 use native.Mathlib.Omega.{arith}
 use borrow.Author.Tests.{lt-ltb, le-ltb, leb-false}
-use lib.Dec.{leb, ltb}
+use lib.Dec.{leb}
 use lib.ListN.{length, getD, set, length-set}
 use lib.Seq.{getD-set-same, getD-set-other}
 use Rattle.errors.specs.Answer.{pick}
 use Rattle.broadword.specs.Fields.{word}
 use Rattle.broadword.proofs.Fields.{word-same}
 use Rattle.darray.specs.Index.{pos, blocks, size, wide, spill, before, entry, lanes, lane, laneWord, laneWords, overflow, indexWords}
-use Rattle.darray.specs.Pending.{Rising, blockWide, blockSpill, blockEntry, blockLane, blockLaneWord, put, flushed, Flushable}
+use Rattle.darray.specs.Pending.{Rising, blockWide, blockSpill, blockEntry, blockLane, blockLaneWord, put, flushed}
 use Rattle.darray.proofs.Index as index
 use Rattle.darray.proofs.Index.{Holds}
 

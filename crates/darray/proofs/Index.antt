@@ -1,21 +1,19 @@
 -- Laws of the index of a list of positions: its length, what each of its words is, and how an entry, a lane and an overflow position
 -- are read back. Assumes nothing.
 use mathlib.Core.Path.{_≡_, refl, sym, ap, ap₂, _∙_, subst}
-use mathlib.Core.List.{List, [], _∷_, _++_}
+use mathlib.Core.List.{List, _++_}
 use mathlib.Core.Bool.{Bool, true, false}
-use mathlib.Core.Logic.{_⊎_, inl, inr, ⊎-elim}
-use Prim.Native.Nat.{ℕ, zero, suc, _+_, _-_, _*_, _/_, _%_, _^_, _≤_, _<_, min, zero-le, suc-le-suc}
-use native.Mathlib.Nat.{not-suc-le-zero, le-of-suc-le-suc, lt-of-not-le, lt-of-lt-of-le, le-refl, mul-comm}
+use Prim.Native.Nat.{ℕ, zero, suc, _+_, _-_, _*_, _/_, _%_, _^_, _≤_, _<_, min, zero-le}
+use native.Mathlib.Nat.{not-suc-le-zero, le-of-suc-le-suc, le-refl, mul-comm}
 use native.Mathlib.Decide.{decLt, le-ind}
 use native.Mathlib.Omega.{arith}
-use borrow.Author.Tests.{lt-ltb, le-ltb, le-leb, lt-leb, leb-true, leb-false}
+use borrow.Author.Tests.{lt-ltb, le-ltb, leb-false}
 use lib.Bits.{bitAnd, and-mask}
-use lib.Dec.{leb, ltb, lit<}
 use lib.ListN.{length, getD, length-append, List·getD-append}
 use lib.Seq.{getD-append-add}
 use Rattle.errors.specs.Answer.{pick}
-use Rattle.broadword.specs.Bits.{bit, count}
-use Rattle.broadword.specs.Fields.{digit, word}
+use Rattle.broadword.specs.Bits.{count}
+use Rattle.broadword.specs.Fields.{word}
 use Rattle.broadword.proofs.Count.{count-mono}
 use Rattle.broadword.proofs.Fields.{digit-is, digit-word, word-lt}
 use Rattle.bit_vectors.specs.Vector.{bitOver}

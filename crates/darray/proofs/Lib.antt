@@ -1,5 +1,6 @@
 pub mod Positions
 pub mod Index
+pub mod Reading
 pub mod Counts
 pub mod Blocks
 pub mod Clear

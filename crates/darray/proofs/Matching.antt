@@ -1,20 +1,19 @@
 -- Whether words are those of an index. Assumes nothing.
 use mathlib.Core.Path.{_≡_, refl, sym, ap, ap₂, _∙_, subst}
 use mathlib.Core.List.{List, [], _∷_}
-use mathlib.Core.Bool.{Bool, true, false, _&&_}
+use mathlib.Core.Bool.{Bool, true, false}
 use mathlib.Core.Logic.{_⊎_, ⊎-elim}
-use Prim.Native.Nat.{ℕ, suc, _+_, _-_, _*_, _/_, _^_, _≤_, _<_, min}
+use Prim.Native.Nat.{ℕ, _+_, _-_, _*_, _≤_, _<_}
 use native.Mathlib.Nat.{eq-or-lt-of-le}
 use native.Mathlib.Decide.{decLt, ℕ-discrete}
 use native.Mathlib.Numerals.{add-one}
 use native.Mathlib.Omega.{arith}
 use borrow.Author.Tests.{eq-eqb, ne-eqb}
-use lib.Dec.{eqb}
 use lib.ListN.{length, getD}
 use lib.Seq.{ext-getD}
 use Rattle.darray.specs.Positions.{positions}
-use Rattle.darray.specs.Index.{pos, blocks, size, spill, before, entry, laneWord, laneWords, overflow, indexWords}
-use Rattle.darray.specs.Pending.{blockEntry, blockLaneWord, blockSpill, Decides, Reads, Matches}
+use Rattle.darray.specs.Index.{blocks, size, spill, before, entry, laneWord, laneWords, overflow, indexWords}
+use Rattle.darray.specs.Pending.{Decides, Matches}
 use Rattle.darray.specs.Queries.{same}
 use Rattle.darray.proofs.Index as index
 use Rattle.darray.proofs.Index.{Holds}

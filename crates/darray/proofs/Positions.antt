@@ -1,9 +1,9 @@
 -- Laws of `places`: the position with the number k is the place that `select` finds, and positions rise. Assumes nothing.
 use mathlib.Core.Path.{_≡_, refl, sym, ap, _∙_, subst}
-use mathlib.Core.List.{List, [], _∷_, _++_}
+use mathlib.Core.List.{List, [], _∷_}
 use mathlib.Core.Logic.{_⊎_, ⊎-elim}
-use Prim.Native.Nat.{ℕ, zero, suc, _+_, _-_, _*_, _≤_, _<_}
-use native.Mathlib.Nat.{not-suc-le-zero, eq-or-lt-of-le, le-of-suc-le-suc, le-of-lt, lt-of-not-le, lt-of-lt-of-le, le-refl}
+use Prim.Native.Nat.{ℕ, zero, suc, _+_, _≤_, _<_}
+use native.Mathlib.Nat.{not-suc-le-zero, eq-or-lt-of-le, le-of-suc-le-suc, le-of-lt, lt-of-not-le}
 use native.Mathlib.Decide.{ℕ-discrete}
 use native.Mathlib.Omega.{arith}
 use borrow.Author.Tests.{eq-eqb, ne-eqb}
@@ -13,7 +13,7 @@ use Rattle.broadword.specs.Bits.{count}
 use Rattle.broadword.specs.Places.{select}
 use Rattle.broadword.specs.declared.Found.the-variants.{At}
 use Rattle.broadword.proofs.Count.{count-mono}
-use Rattle.broadword.proofs.Find.{Selected, selected, select-at, select-some}
+use Rattle.broadword.proofs.Find.{Selected, select-at, select-some}
 use Rattle.darray.specs.Positions.{places}
 
 -- where more ones stand below n than below i, i is below n

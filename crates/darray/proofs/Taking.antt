@@ -1,13 +1,13 @@
 -- Positions taken one by one from the words. Assumes nothing.
-use mathlib.Core.Path.{_≡_, refl, sym, ap, _∙_, subst}
+use mathlib.Core.Path.{_≡_, refl, sym, ap, _∙_}
 use mathlib.Core.List.{List}
 use mathlib.Core.Bool.{Bool}
-use Prim.Native.Nat.{ℕ, suc, _+_, _-_, _*_, _^_, _≤_, _<_}
-use native.Mathlib.Nat.{le-refl, lt-of-not-le, le-of-eq, add-comm}
+use Prim.Native.Nat.{ℕ, suc, _+_, _-_, _*_, _≤_}
+use native.Mathlib.Nat.{lt-of-not-le, le-of-eq}
 use native.Mathlib.Decide.{decLe}
 use native.Mathlib.Omega.{arith}
 use lib.Pow.{pow-pos}
-use lib.ListN.{length, getD}
+use lib.ListN.{getD}
 use Rattle.broadword.specs.Bits.{bit, count, ones}
 use Rattle.broadword.specs.Places.{select}
 use Rattle.broadword.specs.declared.Found.the-variants.{At, Nothing}
@@ -15,7 +15,7 @@ use Rattle.broadword.proofs.Count.{bit-le, bit-above, count-mono, count-zero}
 use Rattle.broadword.proofs.Find.{selected, select-at, select-none, select-some}
 use Rattle.bit_vectors.specs.Vector.{bitOver, wordOver}
 use Rattle.bit_vectors.proofs.Runs.{Fit}
-use Rattle.darray.specs.Scan.{Position, Inside}
+use Rattle.darray.specs.Scan.{Position}
 use Rattle.darray.specs.Pending.{Left}
 use Rattle.darray.specs.declared.pending.Rest.{Rest}
 use Rattle.darray.proofs.Counts as counts

@@ -1,4 +1,5 @@
--- The pending positions of a block: how they are taken from the words, and what a flush writes of them. Assumes nothing.
+-- The pending positions of a block: how they are taken from the words, and what a flush writes of them. It is what functions inside the
+-- crate are promised by: no public contract rests on it. Assumes nothing.
 use mathlib.Core.Path.{_≡_}
 use mathlib.Core.List.{List}
 use mathlib.Core.Bool.{Bool, true, false}

@@ -1,5 +1,5 @@
--- What the functions inside the crate demand and hand back. A run f of bits is that of the ones or the zeros of a bit vector's words.
--- Assumes nothing.
+-- What the functions that scan the words demand and hand back, inside the crate: no public contract rests on it. A run f of bits is
+-- that of the ones or the zeros of a bit vector's words. Assumes nothing.
 use mathlib.Core.Path.{_≡_}
 use mathlib.Core.List.{List}
 use Prim.Native.Nat.{ℕ, _+_, _-_, _*_, _^_, _≤_, _<_, min}

@@ -1,6 +1,9 @@
 // The select index over the ones or the zeros of a bit vector, as words: the entries of its blocks (block_inventory), the
 // distances of every 32nd position four to a word (subblock_inventory), and the positions of the blocks that are too wide for
 // distances of 16 bits (overflow_positions).
+//
+// Measuring and validating take time linear in the words, and look for no position between every 32nd but in a block that
+// overflows; building takes time linear in the words and the positions. None needs more memory than one block's positions.
 ghost use mathlib.Core.Path.{_≡_};
 ghost use mathlib.Core.List.{_++_};
 ghost use Prim.Native.Nat.{_+_, _/_, _^_, _≤_, _<_};
@@ -65,6 +68,55 @@ pub enum Validated {
     Refused(Refusal),
 }
 
+// The sizes of the index over the ones or the zeros of a bit vector.
+pub fn measure(words: &[u64], len: usize, over_one: bool) -> Measured
+    ensures { λ r. ⌜ measuring r ≡ measureOf (now (words .entry)) len «over_one» ⌝ }
+{
+    if is_invalid(words, len) {
+        return Measured::Refused(Refusal::InvalidBits);
+    }
+    if len >= MAX_LEN {
+        return Measured::Refused(Refusal::TooMany);
+    }
+    Measured::Sizes(sizes_of(words, len, over_one))
+}
+
+// Writes the index over the ones or the zeros of a bit vector to the front of `out`, and leaves its later words.
+pub fn build(words: &[u64], len: usize, over_one: bool, out: &mut [u64]) -> Built
+    ensures { λ r. ⌜ leaves (building r) (now (out .exit)) ≡ buildOf (now (words .entry)) len «over_one» (now (out .entry)) ⌝ }
+{
+    if is_invalid(words, len) {
+        return Built::Refused(Refusal::InvalidBits);
+    }
+    if len >= MAX_LEN {
+        return Built::Refused(Refusal::TooMany);
+    }
+    let s = sizes_of(words, len, over_one);
+    let n = total(s);
+    if out.len() < n {
+        return Built::Refused(Refusal::ShortBuffer);
+    }
+    write(words, len, over_one, s, &mut *out);
+    Built::Words(n)
+}
+
+// Whether an index is that over the ones or the zeros of a bit vector.
+pub fn validate(words: &[u64], len: usize, over_one: bool, index: &[u64]) -> Validated
+    ensures { λ r. ⌜ validating r ≡ validateOf (now (words .entry)) len «over_one» (now (index .entry)) ⌝ }
+{
+    if is_invalid(words, len) {
+        return Validated::Refused(Refusal::InvalidBits);
+    }
+    if len >= MAX_LEN {
+        return Validated::Refused(Refusal::TooMany);
+    }
+    let s = sizes_of(words, len, over_one);
+    if index.len() != total(s) {
+        return Validated::Is(false);
+    }
+    Validated::Is(matches(words, len, over_one, s, index))
+}
+
 // The sizes of the index.
 fn sizes_of(words: &[u64], len: usize, over_one: bool) -> Sizes
     requires { ⌜ ((wordsFor len ≤ length (now words)) × (len < 2 ^ 63)) ⌝ }
@@ -99,7 +151,7 @@ fn total(s: Sizes) -> usize
     s.entries + (s.lanes + 3) / 4 + s.overflow
 }
 
-// Writes the index of the bits, whose sizes are s, block by block.
+// Writes the index of the bits, whose sizes are s, block by block. (`len` says in the contract which bits those are.)
 fn write(words: &[u64], len: usize, over_one: bool, s: Sizes, out: &mut [u64])
     requires { ⌜ Writable (positions «over_one» (now words) len) len (length (now words)) s (length (now out)) ⌝ }
     ensures { λ _. ⌜ now (out .exit) ≡ indexWords (positions «over_one» (now (words .entry)) len) ++ drop (length (indexWords (positions «over_one» (now (words .entry)) len))) (now (out .entry)) ⌝ }
@@ -150,53 +202,4 @@ fn matches(words: &[u64], len: usize, over_one: bool, s: Sizes, index: &[u64]) -
         j += 1;
     }
     true
-}
-
-// The sizes of the index over the ones or the zeros of a bit vector.
-pub fn measure(words: &[u64], len: usize, over_one: bool) -> Measured
-    ensures { λ r. ⌜ measuring r ≡ measureOf (now (words .entry)) len «over_one» ⌝ }
-{
-    if is_invalid(words, len) {
-        return Measured::Refused(Refusal::InvalidBits);
-    }
-    if len >= MAX_LEN {
-        return Measured::Refused(Refusal::TooMany);
-    }
-    Measured::Sizes(sizes_of(words, len, over_one))
-}
-
-// Writes the index over the ones or the zeros of a bit vector to the front of `out`, and leaves its later words.
-pub fn build(words: &[u64], len: usize, over_one: bool, out: &mut [u64]) -> Built
-    ensures { λ r. ⌜ leaves (building r) (now (out .exit)) ≡ buildOf (now (words .entry)) len «over_one» (now (out .entry)) ⌝ }
-{
-    if is_invalid(words, len) {
-        return Built::Refused(Refusal::InvalidBits);
-    }
-    if len >= MAX_LEN {
-        return Built::Refused(Refusal::TooMany);
-    }
-    let s = sizes_of(words, len, over_one);
-    let n = total(s);
-    if out.len() < n {
-        return Built::Refused(Refusal::ShortBuffer);
-    }
-    write(words, len, over_one, s, &mut *out);
-    Built::Words(n)
-}
-
-// Whether an index is that over the ones or the zeros of a bit vector.
-pub fn validate(words: &[u64], len: usize, over_one: bool, index: &[u64]) -> Validated
-    ensures { λ r. ⌜ validating r ≡ validateOf (now (words .entry)) len «over_one» (now (index .entry)) ⌝ }
-{
-    if is_invalid(words, len) {
-        return Validated::Refused(Refusal::InvalidBits);
-    }
-    if len >= MAX_LEN {
-        return Validated::Refused(Refusal::TooMany);
-    }
-    let s = sizes_of(words, len, over_one);
-    if index.len() != total(s) {
-        return Validated::Is(false);
-    }
-    Validated::Is(matches(words, len, over_one, s, index))
 }

@@ -10,15 +10,12 @@ ghost use Rattle.broadword.specs.declared.Found.the-variants.{At};
 ghost use Rattle.bit_vectors.specs.Vector.{bitOver};
 ghost use Rattle.darray.specs.Scan.{Position, Ahead, Inside};
 ghost use Rattle.darray.specs.Pending.{Left, Taken, Sampled, Rising, blockWide, blockSpill, blockLane, blockLaneWord, put, flushed, Flushable, emptied, Decides, Reads, Matches};
-use crate::inner::BLOCK_LEN;
 use crate::inner::SUBBLOCK_LEN;
 use crate::scan::Span;
 use crate::scan::find;
 use crate::scan::is_wide;
 use bit_vectors::words::WORD_LEN;
 use bit_vectors::words::word_over;
-use broadword::Found;
-use broadword::lsb;
 
 pub struct Pending {
     pub positions: [u64; 1024],
@@ -37,10 +34,7 @@ fn lowest(w: u64) -> usize
     requires { ⌜ (w ≡ 0 → ⊥) ⌝ }
     ensures { λ r. ⌜ At r ≡ select (bit w) 64 0 ⌝ }
 {
-    match lsb(w) {
-        Found::At(s) => s,
-        Found::Nothing => 0,
-    }
+    u64::trailing_zeros(w) as usize
 }
 
 // The word without it.

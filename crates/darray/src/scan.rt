@@ -1,4 +1,5 @@
-// Positions found word by word, with no visit of those between: a cursor moves over the words by their counts of ones.
+// Positions found word by word: a cursor moves over the words by their counts of ones, so that a position takes the time of the
+// words between, and those between it and the last one found are not visited.
 ghost use mathlib.Core.Path.{_≡_};
 ghost use Prim.Native.Nat.{ℕ, _+_, _-_, _*_, _/_, _^_, _≤_, _<_, min};
 ghost use lib.Dec.{leb};

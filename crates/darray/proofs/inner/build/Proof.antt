@@ -11,30 +11,19 @@ use Rattle.darray.proofs.Building as building
 use Rattle.darray.proofs.Cases as cases
 use Rattle.darray.proofs.inner.build.Statement.{statement}
 use Rattle.darray.proofs.inner.build.Tie as tie
-use Rattle.darray.proofs.inner.build.Reads as reads
-use Rattle.darray.proofs.inner.build.Lts as lts
-use Rattle.bit_vectors.proofs.words.is_invalid.Reads as is-invalid-reads
-use Rattle.darray.proofs.inner.sizes_of.Reads as sizes-of-reads
-use Rattle.darray.proofs.inner.total.Reads as total-reads
-use Rattle.darray.proofs.inner.write.Reads as write-reads
 
--- src/inner.rt:140:8
 is-invalid-requires : tie.Need-is-invalid-requires
 is-invalid-requires c κs = search needs
 
--- src/inner.rt:141:9
 returns : tie.Need-returns
 returns c = sym (cases.build-13 _ _ _ _ (sym (c .before .is-invalid .ensures) ∙ c .if1 .taken))
 
--- src/inner.rt:144:9
 returns-2 : tie.Need-returns-2
 returns-2 c = sym (cases.build-2 _ _ _ _ (sym (c .before .before .is-invalid .ensures) ∙ c .before .if1 .left) (c .if2 .taken))
 
--- src/inner.rt:146:9
 sizes-of-requires : tie.Need-sizes-of-requires
 sizes-of-requires c κs = (valid _ _ (sym (c .before .before .is-invalid .ensures) ∙ c .before .if1 .left) .room, c .if2 .left)
 
--- src/inner.rt:147:9
 total-requires : tie.Need-total-requires
 total-requires c κs =
     let a = c .before .before .before .before .before .before .args in
@@ -46,13 +35,11 @@ total c =
     let a = c .before .before .before .before .before .before .before .args in
     c .total .ensures ∙ building.index-length (positions (a .over-one) (a .words .now) (a .len)) (c .before .sizes-of .result) (c .before .sizes-of .ensures)
 
--- src/inner.rt:149:9
 returns-3 : tie.Need-returns-3
 returns-3 c =
     let a = c .before .before .before .before .before .before .before .before .args in
     sym (cases.build-3 _ _ _ _ (sym (c .before .before .before .before .before .is-invalid .ensures) ∙ c .before .before .before .before .if1 .left) (c .before .before .before .if2 .left) (subst (λ (n : ℕ). length (a .out .now) < n) (total (c .before)) (c .if3 .taken)))
 
--- src/inner.rt:151:5
 write-requires : tie.Need-write-requires
 write-requires c κs =
     let a = c .before .before .before .before .before .before .before .before .before .args in
@@ -63,11 +50,9 @@ write-requires c κs =
       room = subst (λ (n : ℕ). n ≤ length (a .out .now)) (total (c .before .before)) (c .before .if3 .left);
     }
 
--- src/inner.rt:137:1
 same-length : tie.Need-same-length
 same-length c = search needs
 
--- src/inner.rt:137:1
 returns-4 : tie.Need-returns-4
 returns-4 c =
     let a = c .before .before .before .before .before .before .before .before .before .before .before .before .args in

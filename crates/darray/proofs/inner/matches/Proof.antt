@@ -11,7 +11,7 @@ use lib.ListN.{length, length-replicate}
 use Rattle.broadword.specs.Bits.{count}
 use Rattle.bit_vectors.specs.Vector.{bitOver}
 use Rattle.darray.specs.Positions.{positions}
-use Rattle.darray.specs.Index.{before, indexWords}
+use Rattle.darray.specs.Index.{before}
 use Rattle.darray.specs.Scan.{Position, Ahead}
 use Rattle.darray.proofs.Index.{Holds, before-next, before-le}
 use Rattle.darray.proofs.Flush.{Shows}
@@ -20,14 +20,6 @@ use Rattle.darray.proofs.Building as building
 use Rattle.darray.proofs.Matching as matching
 use Rattle.darray.proofs.inner.matches.Statement.{statement}
 use Rattle.darray.proofs.inner.matches.Tie as tie
-use Rattle.darray.proofs.inner.matches.Reads as reads
-use Rattle.darray.proofs.inner.matches.Lts as lts
-use Rattle.broadword.proofs.select_in_byte_table.Reads as select-in-byte-table-reads
-use Rattle.darray.proofs.pending.block_matches.Reads as block-matches-reads
-use Rattle.darray.proofs.pending.sample.Reads as sample-reads
-use Rattle.darray.proofs.pending.spill.Reads as spill-reads
-use Rattle.darray.proofs.scan.block_size.Reads as block-size-reads
-use Rattle.darray.proofs.scan.ends.Reads as ends-reads
 
 abbrev Inv-loop : tie.InvT-loop
 Inv-loop words len over-one index n blocks over-start table a₀ at₀ over₀ j₀ a at over j =
@@ -37,41 +29,33 @@ Inv-loop words len over-one index n blocks over-start table a₀ at₀ over₀ j
 abbrev μ-loop : tie.MeasureT-loop
 μ-loop words len over-one index n blocks over-start table a₀ at₀ over₀ j₀ a at over j = blocks - j
 
--- src/inner.rt:134:32
 add-over-start : tie.Need-add-over-start Inv-loop μ-loop
 add-over-start c = let a = c .before .before .before .args in let h = building.sizes-lt (positions (a .over-one) (a .words .now) (a .len)) (a .s) (c .before .before .before .pre .0 .sized) (building.positions-lt (a .over-one) (a .words .now) (a .len) (c .before .before .before .pre .0 .few)) in omega arith
 
--- src/inner.rt:134:22
 add-over-start-2 : tie.Need-add-over-start-2 Inv-loop μ-loop
 add-over-start-2 c = let a = c .before .before .before .args in let h = building.sizes-lt (positions (a .over-one) (a .words .now) (a .len)) (a .s) (c .before .before .before .pre .0 .sized) (building.positions-lt (a .over-one) (a .words .now) (a .len) (c .before .before .before .pre .0 .few)) in omega arith
 
--- src/inner.rt:135:17
 select-in-byte-table-requires : tie.Need-select-in-byte-table-requires Inv-loop μ-loop
 select-in-byte-table-requires c κs = search needs
 
--- src/inner.rt:140:5
 loop-holds : tie.Need-loop-holds Inv-loop μ-loop
 unfolding before count
 loop-holds c = (search needs, refl, length-replicate {A = ℕ} 1024 0, record { counted = refl; to-come = search needs }, building.holds-none _ _)
 
--- src/inner.rt:141:13
 block-size-requires : tie.Need-block-size-requires Inv-loop μ-loop
 block-size-requires c κs = let a = c .before .before .before .before .before .before .args in omega (arith, building.block-there (a .over-one) (a .words .now) (a .len) (a .s) (length (a .index .now)) (c .before .before .before .before .before .before .pre .0) (c .before .loop .j) (c .loop-test .taken))
 
--- src/inner.rt:142:13
 ends-requires : tie.Need-ends-requires Inv-loop μ-loop
 ends-requires c κs =
     let a = c .before .before .before .before .before .before .before .before .args in
     let l = c .before .before .before .loop in
     (c .before .before .before .before .select-in-byte-table .ensures, l .inv .3, building.inside (a .over-one) (a .words .now) (a .len) (a .s) (length (a .index .now)) (c .before .before .before .before .before .before .before .before .pre .0) (l .j) (min 1024 (a .s .positions - 1024 * l .j)) (c .before .before .loop-test .taken) refl (1024 * l .j) refl, building.block-there (a .over-one) (a .words .now) (a .len) (a .s) (length (a .index .now)) (c .before .before .before .before .before .before .before .before .pre .0) (c .before .before .before .loop .j) (c .before .before .loop-test .taken))
 
--- src/inner.rt:143:52
 mul-sample : tie.Need-mul-sample Inv-loop μ-loop
 mul-sample c =
     let a = c .before .before .before .before .before .before .before .before .before .before .before .args in
     omega (arith, building.block-there (a .over-one) (a .words .now) (a .len) (a .s) (length (a .index .now)) (c .before .before .before .before .before .before .before .before .before .before .before .pre .0) (c .before .before .before .before .before .before .loop .j) (c .before .before .before .before .before .loop-test .taken), c .before .before .before .before .before .before .before .before .before .before .before .pre .0 .sized .positions, building.positions-lt (a .over-one) (a .words .now) (a .len) (c .before .before .before .before .before .before .before .before .before .before .before .pre .0 .few))
 
--- src/inner.rt:143:9
 sample-requires : tie.Need-sample-requires Inv-loop μ-loop
 sample-requires c κs =
     let a = c .before .before .before .before .before .before .before .before .before .before .before .args in
@@ -102,33 +86,27 @@ room c =
     let h = building.flushable (a .over-one) (a .words .now) (a .len) (a .s) (length (a .index .now)) (c .before .before .before .before .before .before .before .before .before .before .before .before .before .pre .0) (l .j) (c .before .before .before .before .before .before .block-size .result) (c .before .before .before .before .before .before .before .loop-test .taken) (c .before .before .before .before .before .before .block-size .ensures) (c .before .sample .last .0) (shown (c .before)) (l .over) (l .inv .1) (a .index .now) refl in
     (omega (arith, h .lanes-room, c .before .before .before .before .before .before .before .before .before .before .before .before .before .good), omega (arith, h .over-room, c .before .before .before .before .before .before .before .before .before .before .before .before .before .good))
 
--- src/inner.rt:144:56
 mul-block-matches : tie.Need-mul-block-matches Inv-loop μ-loop
 mul-block-matches c = omega (arith, room c)
 
--- src/inner.rt:144:47
 add-block-matches : tie.Need-add-block-matches Inv-loop μ-loop
 add-block-matches c = omega (arith, room c)
 
--- src/inner.rt:144:69
 add-block-matches-2 : tie.Need-add-block-matches-2 Inv-loop μ-loop
 add-block-matches-2 c = omega (arith, room c)
 
--- src/inner.rt:144:13
 block-matches-requires : tie.Need-block-matches-requires Inv-loop μ-loop
 block-matches-requires c κs =
     let a = c .before .before .before .before .before .before .before .before .before .before .before .before .before .args in
     let l = c .before .before .before .before .before .before .before .before .loop in
     building.flushable (a .over-one) (a .words .now) (a .len) (a .s) (length (a .index .now)) (c .before .before .before .before .before .before .before .before .before .before .before .before .before .pre .0) (l .j) (c .before .before .before .before .before .before .block-size .result) (c .before .before .before .before .before .before .before .loop-test .taken) (c .before .before .before .before .before .before .block-size .ensures) (c .before .sample .last .0) (shown (c .before)) (l .over) (l .inv .1) (a .index .now) refl
 
--- src/inner.rt:145:13
 returns : tie.Need-returns Inv-loop μ-loop
 returns c =
     let a = c .before .before .before .before .before .before .before .before .before .before .before .before .before .before .before .args in
     let l = c .before .before .before .before .before .before .before .before .before .before .loop in
     matching.it-is-not (λ e. c .before .block-matches .ensures .no (not-true _ (c .if1 .taken)) (building.index-matches (a .over-one) (a .words .now) (a .len) (a .s) (length (a .index .now)) (c .before .before .before .before .before .before .before .before .before .before .before .before .before .before .before .pre .0) (l .j) (c .before .before .before .before .before .before .before .before .block-size .result) (c .before .before .before .before .before .before .before .before .before .loop-test .taken) (c .before .before .before .before .before .before .before .before .block-size .ensures) (c .before .before .before .sample .last .0) (shown (c .before .before .before)) (l .over) (l .inv .1) (a .index .now) e))
 
--- src/inner.rt:147:17
 spill-requires : tie.Need-spill-requires Inv-loop μ-loop
 spill-requires c κs =
     let a = c .before .before .before .before .before .before .before .before .before .before .before .before .before .before .before .before .args in
@@ -146,25 +124,21 @@ next-before c =
     ap₂ (λ (x y : ℕ). x + y) (l .inv .1) (c .spill .ensures ∙ building.spill-is (a .over-one) (a .words .now) (a .len) (a .s) (length (a .index .now)) (c .before .before .before .before .before .before .before .before .before .before .before .before .before .before .before .before .before .pre .0) (l .j) (c .before .before .before .before .before .before .before .before .before .before .block-size .result) (c .before .before .before .before .before .before .before .before .before .before .before .loop-test .taken) (c .before .before .before .before .before .before .before .before .before .before .block-size .ensures) (c .before .before .before .before .before .sample .last .0) (shown (c .before .before .before .before .before)))
     ∙ sym (ap (before P) (add-one (l .j)) ∙ before-next P (l .j))
 
--- src/inner.rt:147:9
 add-over : tie.Need-add-over Inv-loop μ-loop
 add-over c =
     let a = c .before .before .before .before .before .before .before .before .before .before .before .before .before .before .before .before .before .args in
     let P = positions (a .over-one) (a .words .now) (a .len) in
     omega (arith, next-before c, before-le P (c .before .before .before .before .before .before .before .before .before .before .before .before .loop .j + 1), building.positions-lt (a .over-one) (a .words .now) (a .len) (c .before .before .before .before .before .before .before .before .before .before .before .before .before .before .before .before .before .pre .0 .few))
 
--- src/inner.rt:150:9
 add-j : tie.Need-add-j Inv-loop μ-loop
 add-j c =
     let a = c .before .before .before .before .before .before .before .before .before .before .before .before .before .before .before .before .before .before .args in
     let h = building.sizes-lt (positions (a .over-one) (a .words .now) (a .len)) (a .s) (c .before .before .before .before .before .before .before .before .before .before .before .before .before .before .before .before .before .before .pre .0 .sized) (building.positions-lt (a .over-one) (a .words .now) (a .len) (c .before .before .before .before .before .before .before .before .before .before .before .before .before .before .before .before .before .before .pre .0 .few)) in
     omega (arith, c .before .before .before .before .before .before .before .before .before .before .before .before .loop-test .taken)
 
--- src/inner.rt:140:5
 loop-less : tie.Need-loop-less Inv-loop μ-loop
 loop-less c = omega (arith, c .before .before .before .before .before .before .before .before .before .before .before .before .loop-test .taken)
 
--- src/inner.rt:140:5
 loop-again : tie.Need-loop-again Inv-loop μ-loop
 loop-again c =
     let a = c .before .before .before .before .before .before .before .before .before .before .before .before .before .before .before .before .before .before .args in
@@ -176,7 +150,6 @@ loop-again c =
       building.next-matches (a .over-one) (a .words .now) (a .len) (a .s) (length (a .index .now)) (c .before .before .before .before .before .before .before .before .before .before .before .before .before .before .before .before .before .before .pre .0) (l .j) (c .before .before .before .before .before .before .before .before .before .before .before .block-size .result) (c .before .before .before .before .before .before .before .before .before .before .before .before .loop-test .taken) (c .before .before .before .before .before .before .before .before .before .before .before .block-size .ensures) (c .before .before .before .before .before .before .sample .last .0) (shown (c .before .before .before .before .before .before)) (l .over) (l .inv .1) (a .index .now) (c .before .before .before .before .block-matches .ensures .yes (not-false _ (c .before .before .before .if1 .left))) (l .inv .4),
     )
 
--- src/inner.rt:128:1
 returns-2 : tie.Need-returns-2 Inv-loop μ-loop
 returns-2 c =
     let a = c .before .before .before .before .before .before .args in

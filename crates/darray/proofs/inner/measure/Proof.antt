@@ -6,28 +6,19 @@ use Rattle.bit_vectors.proofs.Valid.{valid}
 use Rattle.darray.proofs.Cases as cases
 use Rattle.darray.proofs.inner.measure.Statement.{statement}
 use Rattle.darray.proofs.inner.measure.Tie as tie
-use Rattle.darray.proofs.inner.measure.Reads as reads
-use Rattle.darray.proofs.inner.measure.Lts as lts
-use Rattle.bit_vectors.proofs.words.is_invalid.Reads as is-invalid-reads
-use Rattle.darray.proofs.inner.sizes_of.Reads as sizes-of-reads
 
--- src/inner.rt:205:8
 is-invalid-requires : tie.Need-is-invalid-requires
 is-invalid-requires c κs = search needs
 
--- src/inner.rt:206:9
 returns : tie.Need-returns
 returns c = sym (cases.measure-13 _ _ _ (sym (c .before .is-invalid .ensures) ∙ c .if1 .taken))
 
--- src/inner.rt:209:9
 returns-2 : tie.Need-returns-2
 returns-2 c = sym (cases.measure-2 _ _ _ (sym (c .before .before .is-invalid .ensures) ∙ c .before .if1 .left) (c .if2 .taken))
 
--- src/inner.rt:211:21
 sizes-of-requires : tie.Need-sizes-of-requires
 sizes-of-requires c κs = (valid _ _ (sym (c .before .before .is-invalid .ensures) ∙ c .before .if1 .left) .room, c .if2 .left)
 
--- src/inner.rt:202:1
 returns-3 : tie.Need-returns-3
 returns-3 c = sym (cases.measure-ok _ _ _ (sym (c .before .before .before .is-invalid .ensures) ∙ c .before .before .if1 .left) (c .before .if2 .left) (c .sizes-of .result) (c .sizes-of .ensures))
 

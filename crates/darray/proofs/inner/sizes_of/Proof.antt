@@ -1,8 +1,8 @@
 -- `darray::inner::sizes_of` meets its contract: the invariant says that `overflow` counts what the blocks before j spill.
 -- Assumes nothing.
 use borrow.Author.Needs.{needs}
-use mathlib.Core.Path.{_≡_, refl, sym, ap, ap₂, _∙_, subst}
-use Prim.Native.Nat.{ℕ, _+_, _-_, _*_, _/_, _^_, _≤_, _<_, min}
+use mathlib.Core.Path.{_≡_, refl, sym, ap, ap₂, _∙_}
+use Prim.Native.Nat.{ℕ, _+_, _-_, _*_, _/_, _≤_, _<_}
 use native.Mathlib.Numerals.{add-one}
 use native.Mathlib.Omega.{arith}
 use lib.Dec.{leb}
@@ -11,19 +11,12 @@ use Rattle.broadword.specs.Bits.{count}
 use Rattle.bit_vectors.specs.Vector.{bitOver}
 use Rattle.darray.specs.Positions.{positions}
 use Rattle.darray.specs.Index.{blocks, before, lanes, spill}
-use Rattle.darray.specs.Scan.{Ahead, Inside, lastOf}
+use Rattle.darray.specs.Scan.{Ahead}
 use Rattle.darray.proofs.Blocks as block
 use Rattle.darray.proofs.Index as index
 use Rattle.darray.proofs.Counts as scan
 use Rattle.darray.proofs.inner.sizes_of.Statement.{statement}
 use Rattle.darray.proofs.inner.sizes_of.Tie as tie
-use Rattle.darray.proofs.inner.sizes_of.Reads as reads
-use Rattle.darray.proofs.inner.sizes_of.Lts as lts
-use Rattle.broadword.proofs.select_in_byte_table.Reads as select-in-byte-table-reads
-use Rattle.darray.proofs.scan.block_size.Reads as block-size-reads
-use Rattle.darray.proofs.scan.count_positions.Reads as count-positions-reads
-use Rattle.darray.proofs.scan.ends.Reads as ends-reads
-use Rattle.darray.proofs.scan.spilled.Reads as spilled-reads
 
 abbrev Inv-loop : tie.InvT-loop
 Inv-loop words len over-one table n blocks overflow₀ at₀ j₀ overflow at j =
@@ -32,30 +25,24 @@ Inv-loop words len over-one table n blocks overflow₀ at₀ j₀ overflow at j 
 abbrev μ-loop : tie.MeasureT-loop
 μ-loop words len over-one table n blocks overflow₀ at₀ j₀ overflow at j = blocks - j
 
--- src/inner.rt:180:17
 select-in-byte-table-requires : tie.Need-select-in-byte-table-requires Inv-loop μ-loop
 select-in-byte-table-requires c κs = search needs
 
--- src/inner.rt:181:9
 count-positions-requires : tie.Need-count-positions-requires Inv-loop μ-loop
 count-positions-requires c κs = c .before .before .pre .0
 
--- src/inner.rt:182:24
 sub-blocks : tie.Need-sub-blocks Inv-loop μ-loop
 sub-blocks c = search needs
 
--- src/inner.rt:182:19
 add-blocks : tie.Need-add-blocks Inv-loop μ-loop
 add-blocks c =
     let a = c .before .before .before .args in
     omega (arith, c .count-positions .ensures, scan.count-few (a .over-one) (a .words .now) (a .len), c .before .before .before .pre .1)
 
--- src/inner.rt:186:5
 loop-holds : tie.Need-loop-holds Inv-loop μ-loop
 unfolding before count
 loop-holds c = (search needs, refl, record { counted = refl; to-come = search needs })
 
--- src/inner.rt:187:13
 ends-requires : tie.Need-ends-requires Inv-loop μ-loop
 ends-requires c κs =
     let a = c .before .before .before .before .before .before .args in
@@ -68,7 +55,6 @@ ends-requires c κs =
       h,
     )
 
--- src/inner.rt:188:46
 block-size-requires : tie.Need-block-size-requires Inv-loop μ-loop
 block-size-requires c κs = omega (arith, c .before .before .loop-test .taken)
 
@@ -76,7 +62,6 @@ block-size-requires c κs = omega (arith, c .before .before .loop-test .taken)
 there : (c : tie.In-loop Inv-loop μ-loop) → 1024 * c .before .loop .j < c .before .before .count-positions .result
 there c = omega (arith, c .loop-test .taken)
 
--- src/inner.rt:188:21
 spilled-requires : tie.Need-spilled-requires Inv-loop μ-loop
 spilled-requires c κs =
     let a = c .before .before .before .before .before .before .before .before .args in
@@ -98,7 +83,6 @@ next-before c =
     ∙ block.spill-is (a .over-one) (a .words .now) (a .len) (n .result) (n .ensures) (l .j) s (there (c .before .before .before .before)) (c .before .before .ends .ensures) in
     ap₂ (λ (x y : ℕ). x + y) (l .inv .1) e ∙ sym (ap (before P) (add-one (l .j)) ∙ index.before-next P (l .j))
 
--- src/inner.rt:188:9
 add-overflow : tie.Need-add-overflow Inv-loop μ-loop
 add-overflow c =
     let a = c .before .before .before .before .before .before .before .before .before .args in
@@ -106,15 +90,12 @@ add-overflow c =
     let P = positions (a .over-one) (a .words .now) (a .len) in
     omega (arith, next-before c, index.before-le P (c .before .before .before .before .before .loop .j + 1), block.length-is (a .over-one) (a .words .now) (a .len) (n .result) (n .ensures), n .ok)
 
--- src/inner.rt:191:9
 add-j : tie.Need-add-j Inv-loop μ-loop
 add-j c = omega (arith, c .before .before .before .before .before .loop-test .taken)
 
--- src/inner.rt:186:5
 loop-less : tie.Need-loop-less Inv-loop μ-loop
 loop-less c = omega (arith, c .before .before .before .before .before .loop-test .taken)
 
--- src/inner.rt:186:5
 loop-again : tie.Need-loop-again Inv-loop μ-loop
 loop-again c = (
   omega (arith, c .before .before .before .before .before .loop-test .taken),
@@ -122,17 +103,14 @@ loop-again c = (
   block.ahead-le _ _ _ _ (omega arith) (c .before .before .before .ends .ensures .next),
 )
 
--- src/inner.rt:196:22
 sub-t13 : tie.Need-sub-t13 Inv-loop μ-loop
 sub-t13 c = search needs
 
--- src/inner.rt:196:17
 add-t14 : tie.Need-add-t14 Inv-loop μ-loop
 add-t14 c =
     let a = c .before .before .before .before .before .args in
     omega (arith, c .before .before .count-positions .ensures, scan.count-few (a .over-one) (a .words .now) (a .len), c .before .before .before .before .before .pre .1)
 
--- src/inner.rt:176:1
 returns : tie.Need-returns Inv-loop μ-loop
 unfolding blocks lanes
 returns c =

@@ -15,30 +15,19 @@ use Rattle.darray.proofs.Cases as cases
 use Rattle.darray.proofs.Matching as matching
 use Rattle.darray.proofs.inner.validate.Statement.{statement}
 use Rattle.darray.proofs.inner.validate.Tie as tie
-use Rattle.darray.proofs.inner.validate.Reads as reads
-use Rattle.darray.proofs.inner.validate.Lts as lts
-use Rattle.bit_vectors.proofs.words.is_invalid.Reads as is-invalid-reads
-use Rattle.darray.proofs.inner.matches.Reads as matches-reads
-use Rattle.darray.proofs.inner.sizes_of.Reads as sizes-of-reads
-use Rattle.darray.proofs.inner.total.Reads as total-reads
 
--- src/inner.rt:186:8
 is-invalid-requires : tie.Need-is-invalid-requires
 is-invalid-requires c κs = search needs
 
--- src/inner.rt:187:9
 returns : tie.Need-returns
 returns c = sym (cases.validate-13 _ _ _ _ (sym (c .before .is-invalid .ensures) ∙ c .if1 .taken))
 
--- src/inner.rt:190:9
 returns-2 : tie.Need-returns-2
 returns-2 c = sym (cases.validate-2 _ _ _ _ (sym (c .before .before .is-invalid .ensures) ∙ c .before .if1 .left) (c .if2 .taken))
 
--- src/inner.rt:192:9
 sizes-of-requires : tie.Need-sizes-of-requires
 sizes-of-requires c κs = (valid _ _ (sym (c .before .before .is-invalid .ensures) ∙ c .before .if1 .left) .room, c .if2 .left)
 
--- src/inner.rt:193:23
 total-requires : tie.Need-total-requires
 total-requires c κs =
     let a = c .before .before .before .before .before .before .args in
@@ -50,7 +39,6 @@ total c =
     let a = c .before .before .before .before .before .before .before .args in
     c .total .ensures ∙ building.index-length (positions (a .over-one) (a .words .now) (a .len)) (c .before .sizes-of .result) (c .before .sizes-of .ensures)
 
--- src/inner.rt:194:9
 returns-3 : tie.Need-returns-3
 returns-3 c =
     let a = c .before .before .before .before .before .before .before .before .args in
@@ -58,13 +46,11 @@ returns-3 c =
     ap (λ (r : Bool). value (flag r)) (matching.same-is false (a .index .now) I (matching.it-is-not (λ e. c .if3 .taken (ap length e ∙ sym (total (c .before))))))
     ∙ sym (cases.validate-ok _ _ _ _ (sym (c .before .before .before .before .before .is-invalid .ensures) ∙ c .before .before .before .before .if1 .left) (c .before .before .before .if2 .left))
 
--- src/inner.rt:196:19
 matches-requires : tie.Need-matches-requires
 matches-requires c κs =
     let e = c .if3 .left ∙ total (c .before) in
     (record { sized = c .before .before .sizes-of .ensures; words = valid _ _ (sym (c .before .before .before .before .before .is-invalid .ensures) ∙ c .before .before .before .before .if1 .left) .room; few = c .before .before .before .if2 .left; room = le-of-eq (sym e) }, e)
 
--- src/inner.rt:183:1
 returns-4 : tie.Need-returns-4
 returns-4 c =
     let a = c .before .before .before .before .before .before .before .before .before .args in

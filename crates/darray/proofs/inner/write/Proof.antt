@@ -3,27 +3,19 @@
 -- Assumes nothing.
 use borrow.Author.Needs.{needs}
 use mathlib.Core.Path.{_≡_, refl, sym, ap, ap₂, _∙_, subst}
-use Prim.Native.Nat.{ℕ, _+_, _-_, _*_, _/_, _^_, _≤_, _<_, min}
+use Prim.Native.Nat.{ℕ, _+_, _-_, _*_, _/_, _^_, _≤_, _<_}
 use native.Mathlib.Numerals.{add-one}
 use native.Mathlib.Omega.{arith}
 use lib.ListN.{length, getD, length-replicate}
 use Rattle.broadword.specs.Bits.{count}
 use Rattle.darray.specs.Positions.{positions}
-use Rattle.darray.specs.Index.{before, spill, indexWords}
+use Rattle.darray.specs.Index.{before, indexWords}
 use Rattle.darray.specs.Pending.{Left}
 use Rattle.darray.specs.declared.pending.Pending.{Pending}
 use Rattle.darray.proofs.Index.{Holds, before-next, before-le}
 use Rattle.darray.proofs.Building as building
 use Rattle.darray.proofs.inner.write.Statement.{statement}
 use Rattle.darray.proofs.inner.write.Tie as tie
-use Rattle.darray.proofs.inner.write.Reads as reads
-use Rattle.darray.proofs.inner.write.Lts as lts
-use Rattle.darray.proofs.pending.empty.Reads as empty-reads
-use Rattle.darray.proofs.pending.fill.Reads as fill-reads
-use Rattle.darray.proofs.pending.flush.Reads as flush-reads
-use Rattle.darray.proofs.pending.spill.Reads as spill-reads
-use Rattle.darray.proofs.pending.start.Reads as start-reads
-use Rattle.darray.proofs.scan.block_size.Reads as block-size-reads
 
 abbrev Inv-loop : tie.InvT-loop
 Inv-loop words len over-one out₀ n blocks over-start p₀ from₀ over₀ j₀ out p from over j =
@@ -34,23 +26,18 @@ Inv-loop words len over-one out₀ n blocks over-start p₀ from₀ over₀ j₀
 abbrev μ-loop : tie.MeasureT-loop
 μ-loop words len over-one out₀ n blocks over-start p₀ from₀ over₀ j₀ out p from over j = blocks - j
 
--- src/inner.rt:105:32
 add-over-start : tie.Need-add-over-start Inv-loop μ-loop
 add-over-start c = let a = c .before .before .before .args in let h = building.sizes-lt (positions (a .over-one) (a .words .now) (a .len)) (a .s) (c .before .before .before .pre .sized) (building.positions-lt (a .over-one) (a .words .now) (a .len) (c .before .before .before .pre .few)) in omega arith
 
--- src/inner.rt:105:22
 add-over-start-2 : tie.Need-add-over-start-2 Inv-loop μ-loop
 add-over-start-2 c = let a = c .before .before .before .args in let h = building.sizes-lt (positions (a .over-one) (a .words .now) (a .len)) (a .s) (c .before .before .before .pre .sized) (building.positions-lt (a .over-one) (a .words .now) (a .len) (c .before .before .before .pre .few)) in omega arith
 
--- src/inner.rt:106:17
 empty-requires : tie.Need-empty-requires Inv-loop μ-loop
 empty-requires c κs = search needs
 
--- src/inner.rt:107:9
 start-requires : tie.Need-start-requires Inv-loop μ-loop
 start-requires c κs = search needs
 
--- src/inner.rt:110:5
 loop-holds : tie.Need-loop-holds Inv-loop μ-loop
 unfolding before count
 loop-holds c =
@@ -64,11 +51,9 @@ loop-holds c =
       λ k h. refl,
     )
 
--- src/inner.rt:111:13
 block-size-requires : tie.Need-block-size-requires Inv-loop μ-loop
 block-size-requires c κs = let a = c .before .before .before .before .before .before .before .args in omega (arith, building.block-there (a .over-one) (a .words .now) (a .len) (a .s) (length (a .out .now)) (c .before .before .before .before .before .before .before .pre) (c .before .loop .j) (c .loop-test .taken))
 
--- src/inner.rt:112:13
 fill-requires : tie.Need-fill-requires Inv-loop μ-loop
 fill-requires c κs =
     let a = c .before .before .before .before .before .before .before .before .before .args in
@@ -81,7 +66,6 @@ fill-requires c κs =
       building.inside (a .over-one) (a .words .now) (a .len) (a .s) (length (a .out .now)) (c .before .before .before .before .before .before .before .before .before .pre) (l .j) (c .before .block-size .result) (c .before .before .loop-test .taken) (c .before .block-size .ensures) (l .from .taken) (i .1),
     )
 
--- src/inner.rt:115:13
 spill-requires : tie.Need-spill-requires Inv-loop μ-loop
 spill-requires c κs =
     let a = c .before .before .before .before .before .before .before .before .before .before .before .before .args in
@@ -96,19 +80,15 @@ room c =
     let h = building.flushable (a .over-one) (a .words .now) (a .len) (a .s) (length (a .out .now)) (c .before .before .before .before .before .before .before .before .before .before .before .before .before .before .pre) (l .j) (c .before .before .before .before .before .before .block-size .result) (c .before .before .before .before .before .before .before .loop-test .taken) (c .before .before .before .before .before .before .block-size .ensures) (c .before .before .before .before .fill .last .0) (building.taken-shows (a .over-one) (a .words .now) (a .len) (a .s) (length (a .out .now)) (c .before .before .before .before .before .before .before .before .before .before .before .before .before .before .pre) (l .j) (c .before .before .before .before .before .before .block-size .result) (c .before .before .before .before .before .before .before .loop-test .taken) (c .before .before .before .before .before .before .block-size .ensures) (c .before .before .before .before .fill .last .0) (l .from) (c .before .before .before .before .fill .result) (l .inv .4 (c .before .before .before .before .before .before .before .loop-test .taken) .1) (c .before .before .before .before .fill .ensures)) (l .over) (l .inv .1) (l .out) (l .inv .2) in
     (omega (arith, h .lanes-room, l .inv .2, c .before .before .before .before .before .before .before .before .before .before .before .before .before .before .good), omega (arith, h .over-room, l .inv .2, c .before .before .before .before .before .before .before .before .before .before .before .before .before .before .good))
 
--- src/inner.rt:116:45
 mul-flush : tie.Need-mul-flush Inv-loop μ-loop
 mul-flush c = omega (arith, room c)
 
--- src/inner.rt:116:36
 add-flush : tie.Need-add-flush Inv-loop μ-loop
 add-flush c = omega (arith, room c)
 
--- src/inner.rt:116:58
 add-flush-2 : tie.Need-add-flush-2 Inv-loop μ-loop
 add-flush-2 c = omega (arith, room c)
 
--- src/inner.rt:116:13
 flush-requires : tie.Need-flush-requires Inv-loop μ-loop
 flush-requires c κs =
     let a = c .before .before .before .before .before .before .before .before .before .before .before .before .before .before .args in
@@ -124,25 +104,21 @@ next-before c =
     ap₂ (λ (x y : ℕ). x + y) (l .inv .1) (c .before .before .before .before .spill .ensures ∙ building.spill-is (a .over-one) (a .words .now) (a .len) (a .s) (length (a .out .now)) (c .before .before .before .before .before .before .before .before .before .before .before .before .before .before .before .before .before .pre) (l .j) (c .before .before .before .before .before .before .before .before .before .block-size .result) (c .before .before .before .before .before .before .before .before .before .before .loop-test .taken) (c .before .before .before .before .before .before .before .before .before .block-size .ensures) (c .before .before .before .before .before .before .before .fill .last .0) (building.taken-shows (a .over-one) (a .words .now) (a .len) (a .s) (length (a .out .now)) (c .before .before .before .before .before .before .before .before .before .before .before .before .before .before .before .before .before .pre) (l .j) (c .before .before .before .before .before .before .before .before .before .block-size .result) (c .before .before .before .before .before .before .before .before .before .before .loop-test .taken) (c .before .before .before .before .before .before .before .before .before .block-size .ensures) (c .before .before .before .before .before .before .before .fill .last .0) (l .from) (c .before .before .before .before .before .before .before .fill .result) (l .inv .4 (c .before .before .before .before .before .before .before .before .before .before .loop-test .taken) .1) (c .before .before .before .before .before .before .before .fill .ensures)))
     ∙ sym (ap (before P) (add-one (l .j)) ∙ before-next P (l .j))
 
--- src/inner.rt:117:9
 add-over : tie.Need-add-over Inv-loop μ-loop
 add-over c =
     let a = c .before .before .before .before .before .before .before .before .before .before .before .before .before .before .before .before .before .args in
     let P = positions (a .over-one) (a .words .now) (a .len) in
     omega (arith, next-before c, before-le P (c .before .before .before .before .before .before .before .before .before .before .before .loop .j + 1), building.positions-lt (a .over-one) (a .words .now) (a .len) (c .before .before .before .before .before .before .before .before .before .before .before .before .before .before .before .before .before .pre .few))
 
--- src/inner.rt:118:9
 add-j : tie.Need-add-j Inv-loop μ-loop
 add-j c =
     let a = c .before .before .before .before .before .before .before .before .before .before .before .before .before .before .before .before .before .args in
     let h = building.sizes-lt (positions (a .over-one) (a .words .now) (a .len)) (a .s) (c .before .before .before .before .before .before .before .before .before .before .before .before .before .before .before .before .before .pre .sized) (building.positions-lt (a .over-one) (a .words .now) (a .len) (c .before .before .before .before .before .before .before .before .before .before .before .before .before .before .before .before .before .pre .few)) in
     omega (arith, c .before .before .before .before .before .before .before .before .before .before .loop-test .taken)
 
--- src/inner.rt:110:5
 loop-less : tie.Need-loop-less Inv-loop μ-loop
 loop-less c = omega (arith, c .before .before .before .before .before .before .before .before .before .before .loop-test .taken)
 
--- src/inner.rt:110:5
 loop-again : tie.Need-loop-again Inv-loop μ-loop
 loop-again c =
     let a = c .before .before .before .before .before .before .before .before .before .before .before .before .before .before .before .before .before .args in
@@ -159,11 +135,9 @@ loop-again c =
       λ k h. building.next-past (a .over-one) (a .words .now) (a .len) (a .s) (length (a .out .now)) (c .before .before .before .before .before .before .before .before .before .before .before .before .before .before .before .before .before .pre) (l .j) (c .before .before .before .before .before .before .before .before .before .block-size .result) (c .before .before .before .before .before .before .before .before .before .before .loop-test .taken) (c .before .before .before .before .before .before .before .before .before .block-size .ensures) (c .before .before .before .before .before .before .before .fill .last .0) (building.taken-shows (a .over-one) (a .words .now) (a .len) (a .s) (length (a .out .now)) (c .before .before .before .before .before .before .before .before .before .before .before .before .before .before .before .before .before .pre) (l .j) (c .before .before .before .before .before .before .before .before .before .block-size .result) (c .before .before .before .before .before .before .before .before .before .before .loop-test .taken) (c .before .before .before .before .before .before .before .before .before .block-size .ensures) (c .before .before .before .before .before .before .before .fill .last .0) (l .from) (c .before .before .before .before .before .before .before .fill .result) (l .inv .4 (c .before .before .before .before .before .before .before .before .before .before .loop-test .taken) .1) (c .before .before .before .before .before .before .before .fill .ensures)) (l .over) (l .inv .1) (l .out) (l .inv .2) (c .before .before .flush .last .1 .0) (c .before .before .flush .ensures .1) k h ∙ l .inv .6 k h,
     )
 
--- src/inner.rt:99:1
 same-length : tie.Need-same-length Inv-loop μ-loop
 same-length c = search needs
 
--- src/inner.rt:99:1
 returns : tie.Need-returns Inv-loop μ-loop
 returns c =
     let a = c .before .before .before .before .before .before .before .args in

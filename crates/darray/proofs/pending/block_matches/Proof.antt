@@ -2,8 +2,7 @@
 -- Assumes nothing.
 use borrow.Author.Needs.{needs}
 use borrow.Author.Tests.{not-true, not-false}
-use mathlib.Core.Path.{_≡_, sym, _∙_, subst}
-use Prim.Native.Nat.{ℕ, _<_}
+use mathlib.Core.Path.{sym, _∙_, subst}
 use native.Mathlib.Omega.{arith}
 use lib.ListN.{getD}
 use Rattle.darray.specs.Pending.{Reads}
@@ -11,60 +10,42 @@ use Rattle.darray.proofs.Flush as flush
 use Rattle.darray.proofs.Matching as matching
 use Rattle.darray.proofs.pending.block_matches.Statement.{statement}
 use Rattle.darray.proofs.pending.block_matches.Tie as tie
-use Rattle.darray.proofs.pending.block_matches.Reads as reads
-use Rattle.darray.proofs.pending.block_matches.Lts as lts
-use Rattle.darray.proofs.pending.entry.Reads as entry-reads
-use Rattle.darray.proofs.pending.lanes_match.Reads as lanes-match-reads
-use Rattle.darray.proofs.pending.overflows.Reads as overflows-reads
-use Rattle.darray.proofs.pending.positions_match.Reads as positions-match-reads
-use Rattle.darray.proofs.pending.spill.Reads as spill-reads
 
--- src/pending.rt:237:9
 overflows-requires : tie.Need-overflows-requires
 overflows-requires c κs = search needs
 
--- src/pending.rt:238:8
 mul-if1 : tie.Need-mul-if1
 mul-if1 c = search needs
 
--- src/pending.rt:238:8
 shared-slice-read-if1 : tie.Need-shared-slice-read-if1
 shared-slice-read-if1 c = search needs
 
--- src/pending.rt:238:30
 element-copy-out-entry : tie.Need-element-copy-out-entry
 element-copy-out-entry c = search needs
 
--- src/pending.rt:238:24
 entry-requires : tie.Need-entry-requires
 entry-requires c κs = search needs
 
--- src/pending.rt:239:9
 returns : tie.Need-returns
 returns c =
     let a = c .before .before .before .before .before .before .args in
     matching.it-is-not (λ m. c .if1 .taken (m .entry ∙ sym (flush.entry-is (a .a .now) (a .n) (a .over) (c .before .entry .result) (c .before .before .before .before .overflows .result) (c .before .before .before .before .overflows .ensures) (c .before .entry .ensures))))
 
--- src/pending.rt:241:9
 lanes-match-requires : tie.Need-lanes-match-requires
 lanes-match-requires c κs = search needs
 
--- src/pending.rt:242:9
 returns-2 : tie.Need-returns-2
 returns-2 c = matching.it-is-not (λ m. c .before .lanes-match .ensures .no (not-true _ (c .if2 .taken)) (m .lane-words))
 
--- src/pending.rt:244:24
 spill-requires : tie.Need-spill-requires
 spill-requires c κs = search needs
 
--- src/pending.rt:244:5
 positions-match-requires : tie.Need-positions-match-requires
 positions-match-requires c κs =
     let a = c .before .before .before .before .before .before .before .before .before .args in
     let p = c .before .before .before .before .before .before .before .before .before .pre in
     (omega (arith, c .spill .ensures, flush.spill-few (a .a .now) (a .n), p .few), omega (arith, c .spill .ensures, p .over-room))
 
--- src/pending.rt:233:1
 returns-3 : tie.Need-returns-3
 returns-3 c =
     let a = c .before .before .before .before .before .before .before .before .before .before .args in

@@ -2,8 +2,7 @@
 -- Assumes nothing.
 use borrow.Author.Needs.{needs}
 use borrow.Author.Count.{below-more}
-use mathlib.Core.Path.{_≡_, refl, sym, ap, _∙_, subst}
-use mathlib.Core.Logic.{⊎-elim}
+use mathlib.Core.Path.{_≡_, refl, sym, _∙_, subst}
 use Prim.Native.Nat.{ℕ, _+_, _-_, _*_, _^_, _≤_, _<_}
 use native.Mathlib.Nat.{not-suc-le-zero}
 use native.Mathlib.Omega.{arith}
@@ -17,11 +16,6 @@ use Rattle.darray.proofs.Counts as counts
 use Rattle.darray.proofs.Taking as taking
 use Rattle.darray.proofs.pending.fill.Statement.{statement}
 use Rattle.darray.proofs.pending.fill.Tie as tie
-use Rattle.darray.proofs.pending.fill.Reads as reads
-use Rattle.darray.proofs.pending.fill.Lts as lts
-use Rattle.bit_vectors.proofs.words.word_over.Reads as word-over-reads
-use Rattle.darray.proofs.pending.lowest.Reads as lowest-reads
-use Rattle.darray.proofs.pending.without_lowest.Reads as without-lowest-reads
 
 abbrev Inv-loop : tie.InvT-loop
 Inv-loop a₀ words over-one from size word₀ left₀ c₀ a word left c =
@@ -31,7 +25,6 @@ Inv-loop a₀ words over-one from size word₀ left₀ c₀ a word left c =
 abbrev μ-loop : tie.MeasureT-loop
 μ-loop a₀ words over-one from size word₀ left₀ c₀ a word left c = size - c + (length words - word)
 
--- src/pending.rt:56:5
 loop-holds : tie.Need-loop-holds Inv-loop μ-loop
 loop-holds c =
     let a = c .before .args in
@@ -55,19 +48,15 @@ next c =
 next-there : (c : tie.Then1 Inv-loop μ-loop) → c .before .before .loop .word + 1 < length (c .before .before .before .before .args .words .now)
 next-there c = let a = c .before .before .before .before .args in counts.word-below (a .over-one) (a .words .now) (c .before .before .loop .word + 1) (a .from .taken + c .before .before .loop .c) (next c .low) (inside (c .before))
 
--- src/pending.rt:58:13
 add-word : tie.Need-add-word Inv-loop μ-loop
 add-word c = omega (arith, next-there c)
 
--- src/pending.rt:59:13
 word-over-requires : tie.Need-word-over-requires Inv-loop μ-loop
 word-over-requires c κs = next-there c
 
--- src/pending.rt:56:5
 loop-less : tie.Need-loop-less Inv-loop μ-loop
 loop-less c = omega (arith, next-there (c .before))
 
--- src/pending.rt:56:5
 loop-again : tie.Need-loop-again Inv-loop μ-loop
 loop-again c =
     let a = c .before .before .before .before .before .args in
@@ -91,39 +80,30 @@ position-lt c = counts.position-lt _ _ _ _ (inside (c .before .before)) (positio
 word-lt : (c : tie.In-loop Inv-loop μ-loop) → c .before .loop .word * 64 ≤ 2 ^ 63
 word-lt c = let l = c .before .loop .inv .2 in counts.word-le _ _ _ (c .before .loop .word) (l .low) (inside c)
 
--- src/pending.rt:61:21
 mul-a : tie.Need-mul-a Inv-loop μ-loop
 mul-a c = omega (arith, word-lt (c .before))
 
--- src/pending.rt:61:39
 lowest-requires : tie.Need-lowest-requires Inv-loop μ-loop
 lowest-requires c κs = c .if1 .left
 
--- src/pending.rt:61:21
 add-a : tie.Need-add-a Inv-loop μ-loop
 add-a c = omega (arith, position-lt c)
 
--- src/pending.rt:61:13
 mul-a-2 : tie.Need-mul-a-2 Inv-loop μ-loop
 mul-a-2 c = search needs
 
--- src/pending.rt:61:13
 element-write-a : tie.Need-element-write-a Inv-loop μ-loop
 element-write-a c = search needs
 
--- src/pending.rt:62:13
 without-lowest-requires : tie.Need-without-lowest-requires Inv-loop μ-loop
 without-lowest-requires c κs = c .before .if1 .left
 
--- src/pending.rt:63:13
 add-c : tie.Need-add-c Inv-loop μ-loop
 add-c c = search needs
 
--- src/pending.rt:56:5
 loop-less-2 : tie.Need-loop-less-2 Inv-loop μ-loop
 loop-less-2 c = omega arith
 
--- src/pending.rt:56:5
 loop-again-2 : tie.Need-loop-again-2 Inv-loop μ-loop
 loop-again-2 c =
     let a = c .before .before .before .before .before .before .args in
@@ -139,14 +119,12 @@ loop-again-2 c =
           (subst (Position (bitOver (a .over-one) (a .words .now)) (a .from .taken + l .c)) p (position (c .before))),
     )
 
--- src/pending.rt:69:16
 add-t17 : tie.Need-add-t17 Inv-loop μ-loop
 add-t17 c =
     let a = c .before .before .before .before .args in
     let p = c .before .before .before .before .pre in
     omega (arith, p .4 .there, p .4 .few, counts.count-few (a .over-one) (a .words .now) (p .4 .bits))
 
--- src/pending.rt:49:1
 returns : tie.Need-returns Inv-loop μ-loop
 returns c =
     let a = c .before .before .before .before .args in

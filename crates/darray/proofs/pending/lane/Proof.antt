@@ -1,44 +1,33 @@
 -- `darray::pending::lane` meets its contract.
 -- Assumes nothing.
 use borrow.Author.Needs.{needs}
-use mathlib.Core.Path.{_≡_, sym, _∙_}
-use native.Mathlib.Omega.{arith}
+use mathlib.Core.Path.{sym, _∙_}
 use lib.Dec.{lit<}
 use Rattle.darray.proofs.Flush as flush
 use Rattle.darray.proofs.pending.lane.Statement.{statement}
 use Rattle.darray.proofs.pending.lane.Tie as tie
-use Rattle.darray.proofs.pending.lane.Reads as reads
-use Rattle.darray.proofs.pending.lane.Lts as lts
 
--- src/pending.rt:114:13
 mul-k : tie.Need-mul-k
 mul-k c = search needs
 
--- src/pending.rt:116:9
 returns : tie.Need-returns
 returns c = (sym (flush.lane-none _ _ _ (c .if1 .taken)), lit< tt)
 
--- src/pending.rt:119:9
 returns-2 : tie.Need-returns-2
 returns-2 c = (sym (flush.lane-wide _ _ _ (c .before .if1 .left) (sym (c .before .before .pre .3) ∙ c .if2 .taken)), lit< tt)
 
--- src/pending.rt:121:5
 mul-result : tie.Need-mul-result
 mul-result c = search needs
 
--- src/pending.rt:121:5
 element-copy-out-result : tie.Need-element-copy-out-result
 element-copy-out-result c = search needs
 
--- src/pending.rt:121:12
 element-copy-out-result-2 : tie.Need-element-copy-out-result-2
 element-copy-out-result-2 c = search needs
 
--- src/pending.rt:121:5
 sub-result : tie.Need-sub-result
 sub-result c = c .before .before .before .before .pre .2 _ (c .before .before .before .if1 .left) .0
 
--- src/pending.rt:110:1
 returns-3 : tie.Need-returns-3
 returns-3 c =
     let p = c .before .before .before .before .pre in

@@ -1,74 +1,56 @@
 -- `darray::pending::lane_word` meets its contract.
 -- Assumes nothing.
 use borrow.Author.Needs.{needs}
-use mathlib.Core.Path.{_≡_, sym, ap, ap₂, _∙_}
+use mathlib.Core.Path.{_≡_, ap, ap₂, _∙_}
 use Prim.Native.Nat.{ℕ, _+_, _*_}
 use native.Mathlib.Omega.{arith}
 use Rattle.darray.specs.Pending.{blockLane, blockLaneWord}
 use Rattle.darray.proofs.Flush as flush
 use Rattle.darray.proofs.pending.lane_word.Statement.{statement}
 use Rattle.darray.proofs.pending.lane_word.Tie as tie
-use Rattle.darray.proofs.pending.lane_word.Reads as reads
-use Rattle.darray.proofs.pending.lane_word.Lts as lts
-use Rattle.darray.proofs.pending.lane.Reads as lane-reads
 
--- src/pending.rt:129:13
 mul-i : tie.Need-mul-i
 mul-i c = search needs
 
--- src/pending.rt:130:15
 lane-requires : tie.Need-lane-requires
 lane-requires c κs = search needs
 
--- src/pending.rt:130:54
 add-lane : tie.Need-add-lane
 add-lane c = search needs
 
--- src/pending.rt:130:37
 lane-requires-2 : tie.Need-lane-requires-2
 lane-requires-2 c κs = search needs
 
--- src/pending.rt:130:37
 mul-low : tie.Need-mul-low
 mul-low c = search needs
 
--- src/pending.rt:130:15
 add-low : tie.Need-add-low
 add-low c = search needs
 
--- src/pending.rt:131:33
 add-lane-2 : tie.Need-add-lane-2
 add-lane-2 c = search needs
 
--- src/pending.rt:131:16
 lane-requires-3 : tie.Need-lane-requires-3
 lane-requires-3 c κs = search needs
 
--- src/pending.rt:131:59
 add-lane-3 : tie.Need-add-lane-3
 add-lane-3 c = search needs
 
--- src/pending.rt:131:42
 lane-requires-4 : tie.Need-lane-requires-4
 lane-requires-4 c κs = search needs
 
--- src/pending.rt:131:42
 mul-high : tie.Need-mul-high
 mul-high c = search needs
 
--- src/pending.rt:131:16
 add-high : tie.Need-add-high
 add-high c = search needs
 
--- src/pending.rt:132:11
 mul-result : tie.Need-mul-result
 mul-result c = search needs
 
--- src/pending.rt:132:5
 add-result : tie.Need-add-result
 add-result c = search needs
 
--- src/pending.rt:125:1
 returns : tie.Need-returns
 unfolding blockLaneWord
 returns c =

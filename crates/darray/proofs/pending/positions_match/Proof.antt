@@ -2,16 +2,14 @@
 -- Assumes nothing.
 use borrow.Author.Needs.{needs}
 use borrow.Author.Count.{below-none, below-more}
-use mathlib.Core.Path.{_≡_, sym, _∙_}
-use Prim.Native.Nat.{ℕ, _+_, _-_, _≤_, _<_}
+use mathlib.Core.Path.{_≡_}
+use Prim.Native.Nat.{ℕ, _+_, _-_, _≤_}
 use native.Mathlib.Omega.{arith}
-use lib.ListN.{length, getD}
+use lib.ListN.{getD}
 use Rattle.darray.specs.Pending.{Reads}
 use Rattle.darray.proofs.Matching as matching
 use Rattle.darray.proofs.pending.positions_match.Statement.{statement}
 use Rattle.darray.proofs.pending.positions_match.Tie as tie
-use Rattle.darray.proofs.pending.positions_match.Reads as reads
-use Rattle.darray.proofs.pending.positions_match.Lts as lts
 
 abbrev Inv-loop : tie.InvT-loop
 Inv-loop a n index at i₀ i = (i ≤ n) × Reads index at (λ k. getD a k 0) i
@@ -19,50 +17,39 @@ Inv-loop a n index at i₀ i = (i ≤ n) × Reads index at (λ k. getD a k 0) i
 abbrev μ-loop : tie.MeasureT-loop
 μ-loop a n index at i₀ i = n - i
 
--- src/pending.rt:223:5
 loop-holds : tie.Need-loop-holds Inv-loop μ-loop
 loop-holds c = (search needs, below-none _)
 
--- src/pending.rt:224:18
 add-if1 : tie.Need-add-if1 Inv-loop μ-loop
 add-if1 c = search needs
 
--- src/pending.rt:224:12
 mul-if1 : tie.Need-mul-if1 Inv-loop μ-loop
 mul-if1 c = search needs
 
--- src/pending.rt:224:12
 shared-slice-read-if1 : tie.Need-shared-slice-read-if1 Inv-loop μ-loop
 shared-slice-read-if1 c = search needs
 
--- src/pending.rt:224:29
 mul-if1-2 : tie.Need-mul-if1-2 Inv-loop μ-loop
 mul-if1-2 c = search needs
 
--- src/pending.rt:224:29
 element-copy-out-if1 : tie.Need-element-copy-out-if1 Inv-loop μ-loop
 element-copy-out-if1 c = search needs
 
--- src/pending.rt:225:13
 returns : tie.Need-returns Inv-loop μ-loop
 returns c = matching.it-is-not (λ h. c .if1 .taken (h (c .before .before .before .before .loop .i) (c .before .before .before .loop-test .taken)))
 
--- src/pending.rt:227:9
 add-i : tie.Need-add-i Inv-loop μ-loop
 add-i c = search needs
 
--- src/pending.rt:223:5
 loop-less : tie.Need-loop-less Inv-loop μ-loop
 loop-less c = search needs
 
--- src/pending.rt:223:5
 loop-again : tie.Need-loop-again Inv-loop μ-loop
 loop-again c =
     let a = c .before .before .before .before .before .args in
     let l = c .before .before .before .before .loop in
     (omega arith, below-more (λ (k : ℕ). getD (a .index .now) (a .at + k) 0 ≡ getD (a .a .now) k 0) (l .i) (l .inv .1) (c .if1 .left))
 
--- src/pending.rt:218:1
 returns-2 : tie.Need-returns-2 Inv-loop μ-loop
 returns-2 c = matching.it-is (λ i h. c .before .loop .inv .1 i (omega arith))
 

@@ -11,9 +11,6 @@ use Rattle.darray.specs.Pending.{blockLaneWord, put}
 use Rattle.darray.proofs.Flush as flush
 use Rattle.darray.proofs.pending.put_lanes.Statement.{statement}
 use Rattle.darray.proofs.pending.put_lanes.Tie as tie
-use Rattle.darray.proofs.pending.put_lanes.Reads as reads
-use Rattle.darray.proofs.pending.put_lanes.Lts as lts
-use Rattle.darray.proofs.pending.lane_word.Reads as lane-word-reads
 
 abbrev Inv-loop : tie.InvT-loop
 Inv-loop a n wide out₀ at words t₀ out t =
@@ -22,39 +19,30 @@ Inv-loop a n wide out₀ at words t₀ out t =
 abbrev μ-loop : tie.MeasureT-loop
 μ-loop a n wide out₀ at words t₀ out t = words - t
 
--- src/pending.rt:140:18
 add-words : tie.Need-add-words Inv-loop μ-loop
 add-words c = omega arith
 
--- src/pending.rt:142:5
 loop-holds : tie.Need-loop-holds Inv-loop μ-loop
 loop-holds c = (search needs, search needs, sym (flush.put-none _ _ _))
 
--- src/pending.rt:143:23
 lane-word-requires : tie.Need-lane-word-requires Inv-loop μ-loop
 lane-word-requires c κs = let p = c .before .before .before .pre in (p .0, omega arith, p .1, p .2)
 
--- src/pending.rt:143:13
 add-out : tie.Need-add-out Inv-loop μ-loop
 add-out c = omega arith
 
--- src/pending.rt:143:9
 mul-out : tie.Need-mul-out Inv-loop μ-loop
 mul-out c = search needs
 
--- src/pending.rt:143:9
 slice-write-out : tie.Need-slice-write-out Inv-loop μ-loop
 slice-write-out c = search needs
 
--- src/pending.rt:144:9
 add-t : tie.Need-add-t Inv-loop μ-loop
 add-t c = omega arith
 
--- src/pending.rt:142:5
 loop-less : tie.Need-loop-less Inv-loop μ-loop
 loop-less c = omega arith
 
--- src/pending.rt:142:5
 loop-again : tie.Need-loop-again Inv-loop μ-loop
 loop-again c =
     let a = c .before .before .before .before .args in
@@ -65,11 +53,9 @@ loop-again c =
           ∙ sym (ap (put (a .out .now) (a .at) (blockLaneWord (a .a .now) (a .n))) (add-one (l .t)) ∙ flush.put-more (a .out .now) (a .at) (blockLaneWord (a .a .now) (a .n)) (l .t)),
     )
 
--- src/pending.rt:136:1
 same-length : tie.Need-same-length Inv-loop μ-loop
 same-length c = search needs
 
--- src/pending.rt:136:1
 returns : tie.Need-returns Inv-loop μ-loop
 returns c =
     let a = c .before .before .before .args in

@@ -11,8 +11,6 @@ use Rattle.darray.specs.Pending.{put}
 use Rattle.darray.proofs.Flush as flush
 use Rattle.darray.proofs.pending.put_positions.Statement.{statement}
 use Rattle.darray.proofs.pending.put_positions.Tie as tie
-use Rattle.darray.proofs.pending.put_positions.Reads as reads
-use Rattle.darray.proofs.pending.put_positions.Lts as lts
 
 abbrev Inv-loop : tie.InvT-loop
 Inv-loop a n out₀ at i₀ out i =
@@ -21,39 +19,30 @@ Inv-loop a n out₀ at i₀ out i =
 abbrev μ-loop : tie.MeasureT-loop
 μ-loop a n out₀ at i₀ out i = n - i
 
--- src/pending.rt:154:5
 loop-holds : tie.Need-loop-holds Inv-loop μ-loop
 loop-holds c = (search needs, search needs, sym (flush.put-none _ _ _))
 
--- src/pending.rt:155:23
 mul-out : tie.Need-mul-out Inv-loop μ-loop
 mul-out c = search needs
 
--- src/pending.rt:155:23
 element-copy-out-out : tie.Need-element-copy-out-out Inv-loop μ-loop
 element-copy-out-out c = search needs
 
--- src/pending.rt:155:13
 add-out : tie.Need-add-out Inv-loop μ-loop
 add-out c = search needs
 
--- src/pending.rt:155:9
 mul-out-2 : tie.Need-mul-out-2 Inv-loop μ-loop
 mul-out-2 c = search needs
 
--- src/pending.rt:155:9
 slice-write-out : tie.Need-slice-write-out Inv-loop μ-loop
 slice-write-out c = search needs
 
--- src/pending.rt:156:9
 add-i : tie.Need-add-i Inv-loop μ-loop
 add-i c = search needs
 
--- src/pending.rt:154:5
 loop-less : tie.Need-loop-less Inv-loop μ-loop
 loop-less c = search needs
 
--- src/pending.rt:154:5
 loop-again : tie.Need-loop-again Inv-loop μ-loop
 loop-again c =
     let a = c .before .before .before .args in
@@ -64,11 +53,9 @@ loop-again c =
           ∙ sym (ap (put (a .out .now) (a .at) (λ k. getD (a .a .now) k 0)) (add-one (l .i)) ∙ flush.put-more (a .out .now) (a .at) (λ k. getD (a .a .now) k 0) (l .i)),
     )
 
--- src/pending.rt:149:1
 same-length : tie.Need-same-length Inv-loop μ-loop
 same-length c = search needs
 
--- src/pending.rt:149:1
 returns : tie.Need-returns Inv-loop μ-loop
 returns c =
     let a = c .before .before .args in

@@ -1,14 +1,13 @@
 -- `darray::pending::sample` meets its contract: the invariant says that those due before i are stored.
 -- Assumes nothing.
 use borrow.Author.Needs.{needs}
-use mathlib.Core.Path.{_≡_, sym, ap, _∙_, subst}
+use mathlib.Core.Path.{_≡_, sym, _∙_, subst}
 use mathlib.Core.Bool.{Bool}
-use Prim.Native.Nat.{ℕ, _+_, _-_, _^_, _≤_, _<_}
+use Prim.Native.Nat.{ℕ, _+_, _-_, _≤_, _<_}
 use native.Mathlib.Nat.{not-suc-le-zero}
 use native.Mathlib.Omega.{arith}
 use lib.Dec.{leb}
-use lib.ListN.{length, getD, set, length-set}
-use Rattle.errors.specs.Answer.{pick}
+use lib.ListN.{length, getD, length-set}
 use Rattle.bit_vectors.specs.Vector.{bitOver}
 use Rattle.darray.specs.Scan.{Position, Ahead}
 use Rattle.darray.specs.Pending.{Due}
@@ -17,10 +16,6 @@ use Rattle.darray.proofs.Counts as counts
 use Rattle.darray.proofs.Sampling as sampling
 use Rattle.darray.proofs.pending.sample.Statement.{statement}
 use Rattle.darray.proofs.pending.sample.Tie as tie
-use Rattle.darray.proofs.pending.sample.Reads as reads
-use Rattle.darray.proofs.pending.sample.Lts as lts
-use Rattle.darray.proofs.pending.stride.Reads as stride-reads
-use Rattle.darray.proofs.scan.find.Reads as find-reads
 
 abbrev Inv-loop : tie.InvT-loop
 Inv-loop a₀ table words over-one e k size step at₀ i₀ a at i =
@@ -30,11 +25,9 @@ Inv-loop a₀ table words over-one e k size step at₀ i₀ a at i =
 abbrev μ-loop : tie.MeasureT-loop
 μ-loop a₀ table words over-one e k size step at₀ i₀ a at i = size + 32 - i
 
--- src/pending.rt:110:9
 stride-requires : tie.Need-stride-requires Inv-loop μ-loop
 stride-requires c κs = c .before .pre .3
 
--- src/pending.rt:113:5
 loop-holds : tie.Need-loop-holds Inv-loop μ-loop
 loop-holds c =
     let a = c .before .before .before .args in
@@ -42,24 +35,20 @@ loop-holds c =
     let z : a .k ≡ a .k + 0 = omega arith in
     (omega arith, p .0, sampling.due-0 (leb 65536 (a .e .last - a .e .first)), subst (Ahead (bitOver (a .over-one) (a .words .now)) (a .e .from)) z (p .5), λ m h. absurd (not-suc-le-zero h))
 
--- src/pending.rt:114:50
 add-find : tie.Need-add-find Inv-loop μ-loop
 add-find c =
     let a = c .before .before .before .before .before .args in
     let p = c .before .before .before .before .before .pre .7 in
     omega (arith, c .loop-test .taken, p .there, p .few, counts.count-few (a .over-one) (a .words .now) (p .bits))
 
--- src/pending.rt:114:13
 find-requires : tie.Need-find-requires Inv-loop μ-loop
 find-requires c κs =
     let p = c .before .before .before .before .before .pre in
     (p .4, c .before .loop .inv .3, blocks.inside-le _ _ _ _ (omega (arith, c .loop-test .taken)) (p .7))
 
--- src/pending.rt:115:9
 mul-a : tie.Need-mul-a Inv-loop μ-loop
 mul-a c = search needs
 
--- src/pending.rt:115:9
 element-write-a : tie.Need-element-write-a Inv-loop μ-loop
 element-write-a c = omega (arith, c .before .loop-test .taken, c .before .before .before .before .before .before .pre .2)
 
@@ -68,15 +57,12 @@ step c =
     let w : Bool = leb 65536 (c .before .before .before .before .before .before .before .args .e .last - c .before .before .before .before .before .before .before .args .e .first) in
     (omega (arith, c .before .before .before .before .before .stride .ensures, sampling.stride-pos w), omega (arith, c .before .before .before .before .before .stride .ensures, sampling.stride-le w))
 
--- src/pending.rt:118:9
 add-i : tie.Need-add-i Inv-loop μ-loop
 add-i c = omega (arith, step c, c .before .before .loop-test .taken, c .before .before .before .before .before .before .before .pre .2)
 
--- src/pending.rt:113:5
 loop-less : tie.Need-loop-less Inv-loop μ-loop
 loop-less c = omega (arith, step c, c .before .before .loop-test .taken)
 
--- src/pending.rt:113:5
 loop-again : tie.Need-loop-again Inv-loop μ-loop
 loop-again c =
     let a = c .before .before .before .before .before .before .before .args in
@@ -91,19 +77,15 @@ loop-again c =
       λ m g. sampling.sample-more (bitOver (a .over-one) (a .words .now)) (a .k) (a .size) w (l .a) (l .inv .1) (p .2) (l .i) (l .inv .4) (c .before .find .result .at) (c .before .before .loop-test .taken) (l .inv .2) (c .before .find .ensures .position) m (subst (λ (x : ℕ). m < l .i + x) s g),
     )
 
--- src/pending.rt:120:16
 sub-last : tie.Need-sub-last Inv-loop μ-loop
 sub-last c = omega (arith, c .before .before .before .before .before .pre .1)
 
--- src/pending.rt:121:5
 mul-a-2 : tie.Need-mul-a-2 Inv-loop μ-loop
 mul-a-2 c = search needs
 
--- src/pending.rt:121:5
 element-write-a-2 : tie.Need-element-write-a-2 Inv-loop μ-loop
 element-write-a-2 c = omega (arith, c .before .before .before .before .before .pre .1, c .before .before .before .before .before .pre .2)
 
--- src/pending.rt:106:1
 returns : tie.Need-returns Inv-loop μ-loop
 returns c =
     let a = c .before .before .before .before .before .args in

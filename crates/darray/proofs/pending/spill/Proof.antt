@@ -1,27 +1,20 @@
 -- `darray::pending::spill` meets its contract.
 -- Assumes nothing.
 use borrow.Author.Needs.{needs}
-use mathlib.Core.Path.{_≡_, sym, ap, _∙_}
+use mathlib.Core.Path.{sym, ap, _∙_}
 use mathlib.Core.Bool.{Bool}
-use Prim.Native.Nat.{ℕ}
 use Rattle.errors.specs.Answer.{pick}
 use Rattle.darray.specs.Pending.{blockSpill}
 use Rattle.darray.proofs.pending.spill.Statement.{statement}
 use Rattle.darray.proofs.pending.spill.Tie as tie
-use Rattle.darray.proofs.pending.spill.Reads as reads
-use Rattle.darray.proofs.pending.spill.Lts as lts
-use Rattle.darray.proofs.pending.overflows.Reads as overflows-reads
 
--- src/pending.rt:99:8
 overflows-requires : tie.Need-overflows-requires
 overflows-requires c κs = search needs
 
--- src/pending.rt:95:1
 returns : tie.Need-returns
 unfolding blockSpill
 returns c = ap (λ (w : Bool). pick w (c .before .before .args .n) 0) (sym (c .if1 .taken) ∙ c .before .overflows .ensures)
 
--- src/pending.rt:95:1
 returns-2 : tie.Need-returns-2
 unfolding blockSpill
 returns-2 c = ap (λ (w : Bool). pick w (c .before .before .args .n) 0) (sym (c .if1 .left) ∙ c .before .overflows .ensures)

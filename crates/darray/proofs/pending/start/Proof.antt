@@ -6,19 +6,13 @@ use native.Mathlib.Omega.{arith}
 use Rattle.darray.proofs.Building.{all-left}
 use Rattle.darray.proofs.pending.start.Statement.{statement}
 use Rattle.darray.proofs.pending.start.Tie as tie
-use Rattle.darray.proofs.pending.start.Reads as reads
-use Rattle.darray.proofs.pending.start.Lts as lts
-use Rattle.bit_vectors.proofs.words.word_over.Reads as word-over-reads
 
--- src/pending.rt:56:9
 returns : tie.Need-returns
 returns c = (refl, λ h. absurd (omega arith))
 
--- src/pending.rt:64:15
 word-over-requires : tie.Need-word-over-requires
 word-over-requires c κs = search needs
 
--- src/pending.rt:52:1
 returns-2 : tie.Need-returns-2
 returns-2 c = (refl, λ h. all-left _ _ _ (c .word-over .ensures))
 

@@ -1,25 +1,19 @@
 -- `darray::pending::stride` meets its contract.
 -- Assumes nothing.
 use borrow.Author.Needs.{needs}
-use mathlib.Core.Path.{_≡_, sym, ap, _∙_}
+use mathlib.Core.Path.{sym, ap, _∙_}
 use mathlib.Core.Bool.{Bool}
 use Prim.Native.Nat.{ℕ}
 use Rattle.errors.specs.Answer.{pick}
 use Rattle.darray.proofs.pending.stride.Statement.{statement}
 use Rattle.darray.proofs.pending.stride.Tie as tie
-use Rattle.darray.proofs.pending.stride.Reads as reads
-use Rattle.darray.proofs.pending.stride.Lts as lts
-use Rattle.darray.proofs.scan.is_wide.Reads as is-wide-reads
 
--- src/pending.rt:102:8
 is-wide-requires : tie.Need-is-wide-requires
 is-wide-requires c κs = search needs
 
--- src/pending.rt:98:1
 returns : tie.Need-returns
 returns c = ap (λ (w : Bool). pick {A = ℕ} w 1 32) (sym (c .if1 .taken) ∙ c .before .is-wide .ensures)
 
--- src/pending.rt:98:1
 returns-2 : tie.Need-returns-2
 returns-2 c = ap (λ (w : Bool). pick {A = ℕ} w 1 32) (sym (c .if1 .left) ∙ c .before .is-wide .ensures)
 

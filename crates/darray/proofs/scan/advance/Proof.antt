@@ -10,10 +10,6 @@ use Rattle.bit_vectors.specs.Vector.{bitOver, wordOver}
 use Rattle.darray.proofs.Counts as scan
 use Rattle.darray.proofs.scan.advance.Statement.{statement}
 use Rattle.darray.proofs.scan.advance.Tie as tie
-use Rattle.darray.proofs.scan.advance.Reads as reads
-use Rattle.darray.proofs.scan.advance.Lts as lts
-use Rattle.bit_vectors.proofs.words.word_over.Reads as word-over-reads
-use Rattle.broadword.proofs.popcount.Reads as popcount-reads
 
 abbrev Inv-loop : tie.InvT-loop
 Inv-loop words over-one k word₀ before₀ n₀ word before n =
@@ -28,15 +24,12 @@ start c =
     let a = c .args in
     scan.word-below (a .over-one) (a .words .now) (a .from .word) (a .k) (subst (λ (x : ℕ). x ≤ a .k) (c .pre .0 .counted) (c .pre .0 .to-come)) (c .pre .1)
 
--- src/inner.rt:100:26
 word-over-requires : tie.Need-word-over-requires Inv-loop μ-loop
 word-over-requires c κs = start (c .before)
 
--- src/inner.rt:100:9
 popcount-requires : tie.Need-popcount-requires Inv-loop μ-loop
 popcount-requires c κs = search needs
 
--- src/inner.rt:101:5
 loop-holds : tie.Need-loop-holds Inv-loop μ-loop
 loop-holds c = (
   start (c .before .before .before),
@@ -45,15 +38,12 @@ loop-holds c = (
   c .popcount .ensures ∙ ap (λ (w : ℕ). ones w 64) (c .before .word-over .ensures),
 )
 
--- src/inner.rt:101:16
 sub-loop : tie.Need-sub-loop Inv-loop μ-loop
 sub-loop c = omega arith
 
--- src/inner.rt:102:9
 add-before : tie.Need-add-before Inv-loop μ-loop
 add-before c = omega arith
 
--- src/inner.rt:103:9
 add-word : tie.Need-add-word Inv-loop μ-loop
 add-word c = omega arith
 
@@ -68,19 +58,15 @@ next c =
     let g : l .before + l .n ≤ a .k = omega arith in
     (e, scan.word-below (a .over-one) (a .words .now) (l .word + 1) (a .k) (subst (λ (x : ℕ). x ≤ a .k) e g) (c .before .before .before .before .before .pre .1))
 
--- src/inner.rt:104:22
 word-over-requires-2 : tie.Need-word-over-requires-2 Inv-loop μ-loop
 word-over-requires-2 c κs = next c .1
 
--- src/inner.rt:104:9
 popcount-requires-2 : tie.Need-popcount-requires-2 Inv-loop μ-loop
 popcount-requires-2 c κs = search needs
 
--- src/inner.rt:101:5
 loop-less : tie.Need-loop-less Inv-loop μ-loop
 loop-less c = omega (arith, next (c .before .before) .1)
 
--- src/inner.rt:101:5
 loop-again : tie.Need-loop-again Inv-loop μ-loop
 loop-again c = (
   next (c .before .before) .1,
@@ -89,7 +75,6 @@ loop-again c = (
   c .popcount2 .ensures ∙ ap (λ (w : ℕ). ones w 64) (c .before .word-over2 .ensures),
 )
 
--- src/inner.rt:94:1
 returns : tie.Need-returns Inv-loop μ-loop
 returns c =
     let l = c .before .loop .inv in

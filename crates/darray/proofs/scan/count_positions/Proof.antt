@@ -6,15 +6,11 @@ use Prim.Native.Nat.{ℕ, _+_, _-_, _*_, _/_, _%_, _^_, _≤_, _<_}
 use native.Mathlib.Omega.{arith}
 use lib.ListN.{getD}
 use lib.Pow.{pow-pos}
-use Rattle.broadword.specs.Bits.{bit, count, ones}
+use Rattle.broadword.specs.Bits.{count, ones}
 use Rattle.bit_vectors.specs.Vector.{bitOver}
 use Rattle.darray.proofs.Counts as scan
 use Rattle.darray.proofs.scan.count_positions.Statement.{statement}
 use Rattle.darray.proofs.scan.count_positions.Tie as tie
-use Rattle.darray.proofs.scan.count_positions.Reads as reads
-use Rattle.darray.proofs.scan.count_positions.Lts as lts
-use Rattle.bit_vectors.proofs.words.word_over.Reads as word-over-reads
-use Rattle.broadword.proofs.popcount.Reads as popcount-reads
 
 abbrev Inv-loop : tie.InvT-loop
 Inv-loop words len over-one whole n₀ i₀ n i = (i ≤ whole) × (n ≡ count (bitOver over-one words) (i * 64))
@@ -32,58 +28,46 @@ up c =
     (c .before .before .before .loop .n) (c .before .before .before .loop .i) (c .popcount .result) (c .before .before .before .loop .inv .1)
     (c .popcount .ensures ∙ ap (λ (w : ℕ). ones w 64) (c .before .word-over .ensures))
 
--- src/inner.rt:82:5
 loop-holds : tie.Need-loop-holds Inv-loop μ-loop
 unfolding count
 loop-holds c = (search needs, refl)
 
--- src/inner.rt:83:23
 word-over-requires : tie.Need-word-over-requires Inv-loop μ-loop
 word-over-requires c κs = omega arith
 
--- src/inner.rt:83:14
 popcount-requires : tie.Need-popcount-requires Inv-loop μ-loop
 popcount-requires c κs = search needs
 
--- src/inner.rt:83:9
 add-n : tie.Need-add-n Inv-loop μ-loop
 add-n c = let e = up c in omega (arith, scan.count-few (c .before .before .before .before .before .args .over-one) (c .before .before .before .before .before .args .words .now) ((c .before .before .before .loop .i + 1) * 64))
 
--- src/inner.rt:84:9
 add-i : tie.Need-add-i Inv-loop μ-loop
 add-i c = omega arith
 
--- src/inner.rt:82:5
 loop-less : tie.Need-loop-less Inv-loop μ-loop
 loop-less c = omega arith
 
--- src/inner.rt:82:5
 loop-again : tie.Need-loop-again Inv-loop μ-loop
 loop-again c = (omega arith, up c)
 
--- src/inner.rt:88:9
 returns : tie.Need-returns Inv-loop μ-loop
 returns c =
     let a = c .before .before .before .before .args in
     let e : c .before .before .loop .i * 64 ≡ a .len = omega arith in
     c .before .before .loop .inv .1 ∙ ap (count (bitOver (a .over-one) (a .words .now))) e
 
--- src/inner.rt:90:18
 word-over-requires-2 : tie.Need-word-over-requires-2 Inv-loop μ-loop
 word-over-requires-2 c κs = omega arith
 
--- src/inner.rt:90:55
 shl-popcount : tie.Need-shl-popcount Inv-loop μ-loop
 shl-popcount c = omega arith
 
--- src/inner.rt:90:18
 rem-popcount : tie.Need-rem-popcount Inv-loop μ-loop
 rem-popcount c =
     let h = scan.shl-one (c .before .before .before .before .before .args .len % 64) (omega arith) in
     let p = pow-pos (c .before .before .before .before .before .args .len % 64) in
     omega arith
 
--- src/inner.rt:90:9
 popcount-requires-2 : tie.Need-popcount-requires-2 Inv-loop μ-loop
 popcount-requires-2 c κs = search needs
 
@@ -97,13 +81,11 @@ last c =
     (l .inv .1 ∙ ap (count (bitOver (a .over-one) (a .words .now))) e)
     (c .popcount2 .ensures ∙ ap₂ (λ (w m : ℕ). ones (w % m) 64) (c .before .word-over2 .ensures) (scan.shl-one (a .len % 64) (omega arith)))
 
--- src/inner.rt:90:5
 add-result : tie.Need-add-result Inv-loop μ-loop
 add-result c =
     let a = c .before .before .before .before .before .before .args in
     omega (arith, last c, scan.count-few (a .over-one) (a .words .now) (a .len), c .before .before .before .before .before .before .fits)
 
--- src/inner.rt:75:1
 returns-2 : tie.Need-returns-2 Inv-loop μ-loop
 returns-2 c =
     last c

@@ -1,42 +1,32 @@
 -- `darray::scan::ends` meets its contract.
 -- Assumes nothing.
 use borrow.Author.Needs.{needs}
-use mathlib.Core.Path.{_≡_, sym, ap, _∙_, subst}
-use Prim.Native.Nat.{ℕ, _+_, _-_, _*_, _≤_, _<_, min}
+use mathlib.Core.Path.{_≡_, sym, ap, subst}
+use Prim.Native.Nat.{ℕ, _+_, _-_, _*_}
 use native.Mathlib.Omega.{arith}
 use Rattle.bit_vectors.specs.Vector.{bitOver}
-use Rattle.darray.specs.Scan.{Position, Ahead, Hits, lastOf}
+use Rattle.darray.specs.Scan.{Hits, lastOf}
 use Rattle.darray.proofs.Blocks as blocks
 use Rattle.darray.proofs.scan.ends.Statement.{statement}
 use Rattle.darray.proofs.scan.ends.Tie as tie
-use Rattle.darray.proofs.scan.ends.Reads as reads
-use Rattle.darray.proofs.scan.ends.Lts as lts
-use Rattle.darray.proofs.scan.block_size.Reads as block-size-reads
-use Rattle.darray.proofs.scan.find.Reads as find-reads
 
--- src/inner.rt:162:13
 mul-k : tie.Need-mul-k
 mul-k c = search needs
 
--- src/inner.rt:163:9
 find-requires : tie.Need-find-requires
 find-requires c κs =
     let p = c .before .pre in
     (p .0, p .1, blocks.inside-le _ _ _ _ (omega arith) (p .2))
 
--- src/inner.rt:165:53
 block-size-requires : tie.Need-block-size-requires
 block-size-requires c κs = search needs
 
--- src/inner.rt:165:53
 sub-find : tie.Need-sub-find
 sub-find c = search needs
 
--- src/inner.rt:165:48
 add-find : tie.Need-add-find
 add-find c = search needs
 
--- src/inner.rt:165:9
 find-requires-2 : tie.Need-find-requires-2
 find-requires-2 c κs =
     let p = c .before .before .before .before .pre in
@@ -44,7 +34,6 @@ find-requires-2 c κs =
     let e : lastOf (a .n) (a .block) ≡ 1024 * a .block + (c .block-size .result - 1) = ap (λ (s : ℕ). 1024 * a .block + (s - 1)) (sym (c .block-size .ensures)) in
     (p .0, blocks.ahead-le _ _ _ _ (omega arith) (c .before .before .find .ensures .ahead), blocks.inside-le _ _ _ _ (omega arith) (p .2))
 
--- src/inner.rt:158:1
 returns : tie.Need-returns
 returns c =
     let a = c .before .before .before .before .before .before .args in

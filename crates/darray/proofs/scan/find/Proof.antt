@@ -12,29 +12,19 @@ use Rattle.darray.specs.Scan.{Position}
 use Rattle.darray.proofs.Counts as scan
 use Rattle.darray.proofs.scan.find.Statement.{statement}
 use Rattle.darray.proofs.scan.find.Tie as tie
-use Rattle.darray.proofs.scan.find.Reads as reads
-use Rattle.darray.proofs.scan.find.Lts as lts
-use Rattle.bit_vectors.proofs.words.word_over.Reads as word-over-reads
-use Rattle.broadword.proofs.select_in_word_by.Reads as select-in-word-by-reads
-use Rattle.darray.proofs.scan.advance.Reads as advance-reads
 
--- src/inner.rt:114:9
 advance-requires : tie.Need-advance-requires
 advance-requires c κs = search needs
 
--- src/inner.rt:115:9
 word-over-requires : tie.Need-word-over-requires
 word-over-requires c κs = search needs
 
--- src/inner.rt:116:39
 sub-select-in-word-by : tie.Need-sub-select-in-word-by
 sub-select-in-word-by c = search needs
 
--- src/inner.rt:116:11
 select-in-word-by-requires : tie.Need-select-in-word-by-requires
 select-in-word-by-requires c κs = search needs
 
--- src/inner.rt:117:19
 enum-known-s : tie.Need-enum-known-s
 enum-known-s c = search needs
 
@@ -52,23 +42,18 @@ placed c =
 placed-lt : (c : tie.After-struct-known2) → c .before .before .before .before .before .before .before .advance .result .word * 64 + c .before .before .s .given .0 .0 < 2 ^ 63
 placed-lt c = scan.position-lt _ _ _ _ (c .before .before .before .before .before .before .before .before .before .pre .2) (placed c)
 
--- src/inner.rt:118:18
 mul-t12 : tie.Need-mul-t12
 mul-t12 c = omega (arith, placed-lt c)
 
--- src/inner.rt:118:18
 add-t13 : tie.Need-add-t13
 add-t13 c = omega (arith, placed-lt c)
 
--- src/inner.rt:121:27
 enum-told : tie.Need-enum-told
 enum-told c = search needs
 
--- src/inner.rt:110:1
 returns : tie.Need-returns
 returns c = record { position = placed c; ahead = c .before .before .before .before .before .before .before .advance .ensures .0 }
 
--- src/inner.rt:110:1
 returns-2 : tie.Need-returns-2
 returns-2 c =
     let a = c .before .before .before .before .before .before .before .args in
