@@ -36,7 +36,7 @@ fn count(c: Count) -> Reply {
     }
 }
 
-fn place(p: Place) -> Reply {
+pub fn place(p: Place) -> Reply {
     match p {
         Place::At(i) => Reply::Value(line::wide(i)),
         Place::Nothing => Reply::Nothing,

@@ -1,11 +1,8 @@
 // `index` and `index_select`: the select index over the ones or the zeros of the bits, built anew each time.
-ghost use mathlib.Core.Path.{_≡_};
-ghost use Rattle.darray.specs.Queries.{measureOf, sizes};
-ghost use Rattle.console.specs.Index.{Ready};
+use crate::bits;
 use crate::line;
 use crate::output;
 use crate::output::Reply;
-use crate::words;
 use darray::inner;
 use darray::inner::Built;
 use darray::inner::Measured;
@@ -119,39 +116,11 @@ pub fn answer(
     }
 }
 
-// Select through the index that was just built.
-fn selected(
-    words: &[u64],
-    len: usize,
-    over_one: bool,
-    index: &[u64],
-    positions: usize,
-    k: usize,
-) -> Reply
-    requires { ⌜ Ready (now words) len «over_one» (now index) positions ⌝ }
-{
-    let table = broadword::select_in_byte_table();
-    words::found(darray::select::select(words, len, over_one, index, positions, &table, k))
-}
-
-fn built_select(words: &[u64], len: usize, over_one: bool, s: Sizes, k: usize) -> Reply
-    requires { ⌜ measureOf (now words) len «over_one» ≡ sizes (s .positions) (s .entries) (s .lanes) (s .overflow) ⌝ }
-{
-    let mut index = [0u64; 8192];
-    match inner::build(words, len, over_one, &mut index) {
-        Built::Words(n) => selected(words, len, over_one, line::first(&index, n), s.positions, k),
-        Built::Refused(r) => Reply::Refused(r),
-    }
-}
-
 // `index_select B K`
 pub fn select(words: &[u64], len: usize, b: u64, k: usize) -> Reply {
     if 1 < b {
         return Reply::Bad;
     }
-    let over_one = b == 1;
-    match inner::measure(words, len, over_one) {
-        Measured::Sizes(s) => built_select(words, len, over_one, s, k),
-        Measured::Refused(r) => Reply::Refused(r),
-    }
+    let mut index = [0u64; 8192];
+    bits::place(darray::select_built(words, len, b == 1, &mut index, k))
 }

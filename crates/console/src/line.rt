@@ -1,7 +1,6 @@
 // A line as words with one space between them, and its numbers.
-ghost use mathlib.Core.Path.{_≡_};
 ghost use Prim.Native.Nat.{_≤_};
-ghost use lib.ListN.{length, take};
+ghost use lib.ListN.{length};
 use decimal::Parsed;
 
 // The words after a command as numbers: whether all of them are, how many, and the first two.
@@ -120,9 +119,7 @@ pub fn store(line: &[u8], end: usize, words: &mut [u64; 4096]) {
 }
 
 // The first n words, where there are so many.
-pub fn first(s: &[u64], n: usize) -> &[u64]
-    ensures { λ r. ⌜ now r ≡ take n (now (s .entry)) ⌝ }
-{
+pub fn first(s: &[u64], n: usize) -> &[u64] {
     if n <= s.len() {
         return &s[..n];
     }

@@ -4,7 +4,7 @@ use crate::line::Arguments;
 use crate::output::Reply;
 use broadword::Found;
 
-pub fn found(f: Found) -> Reply {
+fn found(f: Found) -> Reply {
     match f {
         Found::At(i) => Reply::Value(line::wide(i)),
         Found::Nothing => Reply::Nothing,

@@ -1,7 +1,6 @@
 -- `console::line::first` is safe. Assumes nothing.
 use mathlib.Core.Path.{sym}
-use native.Mathlib.Omega.{arith}
-use lib.Seq.{length-take-le, take-all}
+use lib.Seq.{length-take-le}
 use borrow.Author.Needs.{needs}
 use Rattle.console.proofs.line.first.Statement.{statement}
 use Rattle.console.proofs.line.first.Tie as tie
@@ -13,7 +12,7 @@ returns : tie.Need-returns
 returns c = search needs
 
 returns-2 : tie.Need-returns-2
-returns-2 c = sym (take-all (c .before .args .n) (c .before .args .s .now) (omega arith))
+returns-2 c = search needs
 
 pub first-spec : {M : Type 1} → statement M
 first-spec = tie.close (tie.spec slice-aggregate-result returns returns-2)
