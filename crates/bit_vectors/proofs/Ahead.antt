@@ -200,7 +200,7 @@ module _ (ws : List ℕ) (len from at : ℕ) (fit : Fit ws) (v : Valid ws len) w
         lt-of-le-of-lt (le-trans (le-of-eq is) (omega arith)) (fit at)
 
     pub ahead-some : (x ≡ 0 → ⊥) → Ahead ws len from at x
-    ahead-some n = record { small = x-lt; nothing = λ e. absurd (n (lowest-none x x-lt e)); place = found }
+    ahead-some n = record { small = x-lt; nothing = λ e. absurd (n e); place = found }
       where
         found : (t : ℕ) → select (bit x) 64 0 ≡ At t → (at * 64 + t < len) × (select g len (count g from + 0) ≡ At (at * 64 + t)) × (x / 2 ^ (t + 1) * 2 ^ (t + 1) ≡ restOf ws len (at * 64 + t) (at * 64 + t + 1))
         found t e =

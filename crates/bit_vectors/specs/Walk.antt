@@ -80,9 +80,9 @@ module _ (ws : List ℕ) (len : ℕ) (w : Unary) where
     pub near : w .from ≤ w .position + 1
     pub rest : w .buf ≡ restOf ws len (w .position) (w .from)
 
--- what is ahead of a walk at `from`: the lowest one of x, which is left of the word `at`, and nothing where x has none
+-- what is ahead of a walk at `from`: the lowest one of x, which is left of the word `at`, and nothing where x is 0
 pub record Ahead (ws : List ℕ) (len from at x : ℕ) : Type 0 where
   pub small : x < 2 ^ 64
-  pub nothing : select (bit x) 64 0 ≡ found.Nothing → select (bitOver true ws) len (count (bitOver true ws) from + 0) ≡ found.Nothing
+  pub nothing : x ≡ 0 → select (bitOver true ws) len (count (bitOver true ws) from + 0) ≡ found.Nothing
   pub place : (t : ℕ) → select (bit x) 64 0 ≡ found.At t
       → (at * 64 + t < len) × (select (bitOver true ws) len (count (bitOver true ws) from + 0) ≡ found.At (at * 64 + t)) × (x / 2 ^ (t + 1) * 2 ^ (t + 1) ≡ restOf ws len (at * 64 + t) (at * 64 + t + 1))

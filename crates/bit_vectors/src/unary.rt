@@ -17,7 +17,7 @@ use super::words::find_from;
 use super::words::is_invalid;
 use super::words::words_for;
 use broadword::Found;
-use broadword::lsb;
+use broadword::bsf64;
 use broadword::select_in_byte_table;
 use errors::Refusal;
 
@@ -142,9 +142,10 @@ pub fn next_within(words: &[u64], len: usize, w: Unary) -> Stepped
     let left = left_of(words, len, w);
     let at = left.at;
     let rest = left.rest;
-    let Found::At(bit) = lsb(rest) else {
+    if rest == 0 {
         return ended(len);
-    };
+    }
+    let bit = bsf64(rest);
     let place = at * WORD_LEN + bit;
     Stepped {
         place: Place::At(place),

@@ -1,13 +1,15 @@
 // Broadword tools: products that wrap, the number of ones of a word, and the places where they stand.
 //
 // All run in constant time. `select_in_word_by` is `select_in_word` for a caller that loops: it is lent the table, which
-// `select_in_byte_table` makes, and demands that it is that table. The functions that are not public demand what they say.
+// `select_in_byte_table` makes, and demands that it is that table; `bsf64` is `lsb` for such a caller, and demands a word that is not 0. The functions
+// that are not public demand what they say.
 ghost use mathlib.Core.Path.{_≡_};
 ghost use Prim.Native.Nat.{ℕ, _*_, _%_, _^_, _<_};
 ghost use lib.Dec.{leb};
 ghost use Rattle.broadword.specs.Bits.{bit, count, ones};
 ghost use Rattle.broadword.specs.Fields.{digit, word, flag, LowBytes};
 ghost use Rattle.broadword.specs.Places.{last, select, orElse, SelectInByte};
+ghost use Rattle.broadword.specs.declared.Found.the-variants.{At};
 
 mod tables;
 
@@ -159,6 +161,14 @@ pub fn lsb(x: u64) -> Found
     } else {
         Found::At(bit_position(x & wrapping_mul(u64::MAX, x)))
     }
+}
+
+// The place of the lowest one of a word that is not 0, by the machine's own count: `lsb` for a caller that loops.
+pub fn bsf64(x: u64) -> usize
+    requires { ⌜ (x ≡ 0 → ⊥) ⌝ }
+    ensures { λ r. ⌜ select (bit x) 64 0 ≡ At r ⌝ }
+{
+    u64::trailing_zeros(x) as usize
 }
 
 // The place of the highest one: every bit below it is set, and then all but it cleared.
