@@ -51,6 +51,7 @@ pub struct Sizes {
     pub overflow: usize,
 }
 
+// The sizes, or why there are none.
 pub enum Measured {
     Sizes(Sizes),
     Refused(Refusal),
@@ -176,7 +177,7 @@ fn write(words: &[u64], len: usize, over_one: bool, s: Sizes, out: &mut [u64])
 }
 
 // Whether the words are the index of the bits, whose sizes are s: block by block, with one block's positions in memory, of which
-// those between every 32nd are not looked for.
+// those between every 32nd are not looked for. (`len` as in `write`.)
 fn matches(words: &[u64], len: usize, over_one: bool, s: Sizes, index: &[u64]) -> bool
     requires { ⌜ (Writable (positions «over_one» (now words) len) len (length (now words)) s (length (now index)) × (length (now index) ≡ length (indexWords (positions «over_one» (now words) len)))) ⌝ }
     ensures { λ r. ⌜ Decides r (now (index .entry) ≡ indexWords (positions «over_one» (now (words .entry)) len)) ⌝ }

@@ -17,6 +17,7 @@ use crate::scan::is_wide;
 use bit_vectors::words::WORD_LEN;
 use bit_vectors::words::word_over;
 
+// Positions, and how many of them are pending.
 pub struct Pending {
     pub positions: [u64; 1024],
     pub count: usize,
@@ -127,6 +128,7 @@ pub fn sample(
     a[last] = e.last;
 }
 
+// None is pending.
 pub fn empty() -> Pending
     ensures { λ r. ⌜ ((r .positions ≡ replicate 1024 0) × (r .count ≡ 0)) ⌝ }
 {
