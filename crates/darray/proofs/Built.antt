@@ -65,7 +65,7 @@ module _ (ws : List ℕ) (len : ℕ) (b : Bool) (out : List ℕ) where
       go (is-13 i) = h ∙ cases.build-13 ws len b out i ∙ sym (select-13 k i)
       go (is-2 i l) = h ∙ cases.build-2 ws len b out i l ∙ sym (select-2 k i l)
       go (is-3 i l g) = h ∙ cases.build-3 ws len b out i l g ∙ sym (select-3 k i l g)
-      go (is-ok i l g) = absurd (apart (length I) e (I ++ drop (length I) out) left (sym (h ∙ cases.build-ok ws len b out i l g)))
+      go (is-ok i l g) = absurd (apart (length I) e (I ++ drop (length I) out) left (sym (h ∙ sym (cases.build-ok ws len b out i l g (length I) (I ++ drop (length I) out) refl refl))))
 
   -- what a build that was not refused leaves
   pub record Made (n : ℕ) (left : List ℕ) : Type 0 where
@@ -83,7 +83,7 @@ module _ (ws : List ℕ) (len : ℕ) (b : Bool) (out : List ℕ) where
       go (is-2 i l) = absurd (apart n 2 left out (h ∙ cases.build-2 ws len b out i l))
       go (is-3 i l g) = absurd (apart n 3 left out (h ∙ cases.build-3 ws len b out i l g))
       go (is-ok i l g) =
-          let e = h ∙ cases.build-ok ws len b out i l g in
+          let e = h ∙ sym (cases.build-ok ws len b out i l g (length I) (I ++ drop (length I) out) refl refl) in
           record { ok = i; short = l; room = g; number = (let a : value n ≡ value (length I) = ap (λ (o : Outcome). o .answer) e in let q : n ≡ length I = cc in q); words = ap (λ (o : Outcome). o .words) e }
 
   pub fits : (n : ℕ) (left : List ℕ) → Made n left → n ≤ length left

@@ -6,7 +6,6 @@ use native.Mathlib.Decide.{decLt}
 use native.Mathlib.Omega.{arith}
 use lib.Dec.{lit<}
 use lib.Pow.{pow-pos, pow-add, high}
-use lib.Count.{trailingZeros, under}
 use lib.Bits.{bitAnd, and-block, and-self, and-zero-l, and-zero-r}
 use Rattle.broadword.specs.Bits.{bit, count, ones}
 use Rattle.broadword.specs.Places.{select}
@@ -87,26 +86,3 @@ select-clear w z h k =
     ∙ select-past (bit w) (bit v) t (bit-below w t m (o .2)) (bit-one w t m (o .2)) (bit-shl-low m (suc t))
     (λ j. sym (bit-shift w (suc t) j) ∙ ap (λ (x : ℕ). bit x j) (high-w ∙ sym high-v) ∙ bit-shift v (suc t) j)
     64 k (short w t m (o .2) 64 h) (bit-le v)
-
--- ---- the place of the lowest one
-
-trailing-is : (t k m : ℕ) → t < k → trailingZeros k ((m * 2 + 1) * 2 ^ t) ≡ t
-unfolding trailingZeros
-trailing-is t zero m h = absurd (not-suc-le-zero h)
-trailing-is zero (suc k) m h =
-    let e : (m * 2 + 1) * 2 ^ 0 % 2 ≡ 1 = omega arith in
-    ap (λ (d : ℕ). under d (trailingZeros k ((m * 2 + 1) * 2 ^ 0 / 2))) e
-trailing-is (suc t) (suc k) m h =
-    let n : ℕ = (m * 2 + 1) * 2 ^ t in
-    let p : (m * 2 + 1) * 2 ^ suc t ≡ n * 2 = ap (λ (x : ℕ). (m * 2 + 1) * x) (pow-suc 2 t) ∙ sym (mul-assoc (m * 2 + 1) (2 ^ t) 2) in
-    let e : (m * 2 + 1) * 2 ^ suc t % 2 ≡ 0 = omega arith in
-    let d : (m * 2 + 1) * 2 ^ suc t / 2 ≡ n = omega arith in
-    ap₂ (λ (x y : ℕ). under x (trailingZeros k y)) e d ∙ ap suc (trailing-is t k m (le-of-suc-le-suc h))
-
-pub lowest-is : (w : ℕ) → (w ≡ 0 → ⊥) → w < 2 ^ 64 → At (trailingZeros 64 w) ≡ select (bit w) 64 0
-lowest-is w z h =
-    let o = odd-times w (pos-of-ne-zero z) in
-    let t : ℕ = o .0 in
-    let l : t < 64 = short w t (o .1) (o .2) 64 h in
-    ap At (ap (trailingZeros 64) (o .2) ∙ trailing-is t 64 (o .1) l)
-    ∙ sym (select-at (bit w) 64 0 t l (bit-one w t (o .1) (o .2)) (count-zero (bit w) t (bit-below w t (o .1) (o .2))))

@@ -1,6 +1,5 @@
 pub mod Positions
 pub mod Index
-pub mod Reading
 pub mod Counts
 pub mod Blocks
 pub mod Clear

@@ -16,6 +16,7 @@ use crate::scan::find;
 use crate::scan::is_wide;
 use bit_vectors::words::WORD_LEN;
 use bit_vectors::words::word_over;
+use broadword::bsf64;
 
 // Positions, and how many of them are pending.
 pub struct Pending {
@@ -30,15 +31,7 @@ pub struct Rest {
     pub taken: usize,
 }
 
-// The place of the lowest one.
-fn lowest(w: u64) -> usize
-    requires { ⌜ (w ≡ 0 → ⊥) ⌝ }
-    ensures { λ r. ⌜ At r ≡ select (bit w) 64 0 ⌝ }
-{
-    u64::trailing_zeros(w) as usize
-}
-
-// The word without it.
+// The word without its lowest one.
 fn without_lowest(w: u64) -> u64
     requires { ⌜ (w ≡ 0 → ⊥) ⌝ }
     ensures { λ r. ⌜ ((k : ℕ) → select (bit r) 64 k ≡ select (bit w) 64 (k + 1)) ⌝ }
@@ -77,7 +70,7 @@ pub fn fill(a: &mut [u64; 1024], words: &[u64], over_one: bool, from: Rest, size
             word += 1;
             left = word_over(words, word, over_one);
         } else {
-            a[c] = (word * WORD_LEN + lowest(left)) as u64;
+            a[c] = (word * WORD_LEN + bsf64(left)) as u64;
             left = without_lowest(left);
             c += 1;
         }

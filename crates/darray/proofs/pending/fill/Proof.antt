@@ -67,14 +67,14 @@ loop-again c =
       l .inv .3,
     )
 
-position : (c : tie.After-lowest Inv-loop μ-loop)
-    → Position (bitOver (c .before .before .before .before .before .args .over-one) (c .before .before .before .before .before .args .words .now)) (c .before .before .before .before .before .args .from .taken + c .before .before .before .loop .c) (c .before .before .before .loop .word * 64 + c .lowest .result)
+position : (c : tie.After-bsf64 Inv-loop μ-loop)
+    → Position (bitOver (c .before .before .before .before .before .args .over-one) (c .before .before .before .before .before .args .words .now)) (c .before .before .before .before .before .args .from .taken + c .before .before .before .loop .c) (c .before .before .before .loop .word * 64 + c .bsf64 .result)
 position c =
     let a = c .before .before .before .before .before .args in
     let l = c .before .before .before .loop in
-    taking.left-position (a .over-one) (a .words .now) (λ i. c .before .before .before .before .shared-slice-known .given i .fits) (l .word) (l .left) (a .from .taken + l .c) (l .inv .2) (c .lowest .result) (c .lowest .ensures)
+    taking.left-position (a .over-one) (a .words .now) (λ i. c .before .before .before .before .shared-slice-known .given i .fits) (l .word) (l .left) (a .from .taken + l .c) (l .inv .2) (c .bsf64 .result) (sym (c .bsf64 .ensures))
 
-position-lt : (c : tie.After-lowest Inv-loop μ-loop) → c .before .before .before .loop .word * 64 + c .lowest .result < 2 ^ 63
+position-lt : (c : tie.After-bsf64 Inv-loop μ-loop) → c .before .before .before .loop .word * 64 + c .bsf64 .result < 2 ^ 63
 position-lt c = counts.position-lt _ _ _ _ (inside (c .before .before)) (position c)
 
 word-lt : (c : tie.In-loop Inv-loop μ-loop) → c .before .loop .word * 64 ≤ 2 ^ 63
@@ -83,8 +83,8 @@ word-lt c = let l = c .before .loop .inv .2 in counts.word-le _ _ _ (c .before .
 mul-a : tie.Need-mul-a Inv-loop μ-loop
 mul-a c = omega (arith, word-lt (c .before))
 
-lowest-requires : tie.Need-lowest-requires Inv-loop μ-loop
-lowest-requires c κs = c .if1 .left
+bsf64-requires : tie.Need-bsf64-requires Inv-loop μ-loop
+bsf64-requires c κs = c .if1 .left
 
 add-a : tie.Need-add-a Inv-loop μ-loop
 add-a c = omega (arith, position-lt c)
@@ -109,13 +109,13 @@ loop-again-2 c =
     let a = c .before .before .before .before .before .before .args in
     let l = c .before .before .before .before .loop in
     let e : a .from .taken + l .c + 1 ≡ a .from .taken + (l .c + 1) = omega arith in
-    let p : l .word * 64 + c .before .lowest .result ≡ getD (set (l .a) (l .c) (l .word * 64 + c .before .lowest .result)) (l .c) 0 = sym (getD-set-same (l .a) (l .c) (l .word * 64 + c .before .lowest .result) 0 (omega arith)) in (
+    let p : l .word * 64 + c .before .bsf64 .result ≡ getD (set (l .a) (l .c) (l .word * 64 + c .before .bsf64 .result)) (l .c) 0 = sym (getD-set-same (l .a) (l .c) (l .word * 64 + c .before .bsf64 .result) 0 (omega arith)) in (
       omega arith,
-      length-set (l .a) (l .c) (l .word * 64 + c .before .lowest .result) ∙ l .inv .1,
+      length-set (l .a) (l .c) (l .word * 64 + c .before .bsf64 .result) ∙ l .inv .1,
       subst (λ (k : ℕ). Left (a .over-one) (a .words .now) (taking.rest (l .word) (c .without-lowest .result) k)) e
-          (taking.left-taken (a .over-one) (a .words .now) (λ i. c .before .before .before .before .before .shared-slice-known .given i .fits) (l .word) (l .left) (a .from .taken + l .c) (l .inv .2) (c .before .lowest .result) (c .before .lowest .ensures) (c .without-lowest .result) (c .without-lowest .ensures)),
-      below-more (λ (k : ℕ). Position (bitOver (a .over-one) (a .words .now)) (a .from .taken + k) (getD (set (l .a) (l .c) (l .word * 64 + c .before .lowest .result)) k 0)) (l .c)
-          (λ k h. subst (Position (bitOver (a .over-one) (a .words .now)) (a .from .taken + k)) (sym (getD-set-other (l .a) (l .c) k (l .word * 64 + c .before .lowest .result) 0 (λ (q : k ≡ l .c). omega arith))) (l .inv .3 k h))
+          (taking.left-taken (a .over-one) (a .words .now) (λ i. c .before .before .before .before .before .shared-slice-known .given i .fits) (l .word) (l .left) (a .from .taken + l .c) (l .inv .2) (c .before .bsf64 .result) (sym (c .before .bsf64 .ensures)) (c .without-lowest .result) (c .without-lowest .ensures)),
+      below-more (λ (k : ℕ). Position (bitOver (a .over-one) (a .words .now)) (a .from .taken + k) (getD (set (l .a) (l .c) (l .word * 64 + c .before .bsf64 .result)) k 0)) (l .c)
+          (λ k h. subst (Position (bitOver (a .over-one) (a .words .now)) (a .from .taken + k)) (sym (getD-set-other (l .a) (l .c) k (l .word * 64 + c .before .bsf64 .result) 0 (λ (q : k ≡ l .c). omega arith))) (l .inv .3 k h))
           (subst (Position (bitOver (a .over-one) (a .words .now)) (a .from .taken + l .c)) p (position (c .before))),
     )
 
@@ -149,7 +149,7 @@ fill-spec =
     loop-less
     loop-again
     mul-a
-    lowest-requires
+    bsf64-requires
     add-a
     mul-a-2
     element-write-a
