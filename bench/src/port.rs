@@ -5,12 +5,37 @@ mod c {
         pub fn bench_popcount(words: *const u64, n: usize) -> u64;
         pub fn bench_lsb(words: *const u64, n: usize) -> u64;
         pub fn bench_msb(words: *const u64, n: usize) -> u64;
-        pub fn bench_select_in_word_by(words: *const u64, n: usize, ks: *const usize, m: usize) -> u64;
-        pub fn bench_select_in_word(words: *const u64, n: usize, ks: *const usize, m: usize) -> u64;
-        pub fn bench_rank1(words: *const u64, n: usize, len: usize, places: *const usize, m: usize) -> u64;
-        pub fn bench_select1(words: *const u64, n: usize, len: usize, ks: *const usize, m: usize) -> u64;
+        pub fn bench_select_in_word_by(
+            words: *const u64,
+            n: usize,
+            ks: *const usize,
+            m: usize,
+        ) -> u64;
+        pub fn bench_select_in_word(words: *const u64, n: usize, ks: *const usize, m: usize)
+            -> u64;
+        pub fn bench_rank1(
+            words: *const u64,
+            n: usize,
+            len: usize,
+            places: *const usize,
+            m: usize,
+        ) -> u64;
+        pub fn bench_select1(
+            words: *const u64,
+            n: usize,
+            len: usize,
+            ks: *const usize,
+            m: usize,
+        ) -> u64;
         pub fn bench_walk(words: *const u64, n: usize, len: usize) -> u64;
-        pub fn bench_build(words: *const u64, n: usize, len: usize, over_one: bool, out: *mut u64, m: usize) -> u64;
+        pub fn bench_build(
+            words: *const u64,
+            n: usize,
+            len: usize,
+            over_one: bool,
+            out: *mut u64,
+            m: usize,
+        ) -> u64;
         pub fn bench_select(
             words: *const u64,
             n: usize,
@@ -46,7 +71,15 @@ pub fn select_in_word(words: &[u64], ks: &[usize]) -> u64 {
 }
 
 pub fn rank1(words: &[u64], len: usize, places: &[usize]) -> u64 {
-    unsafe { c::bench_rank1(words.as_ptr(), words.len(), len, places.as_ptr(), places.len()) }
+    unsafe {
+        c::bench_rank1(
+            words.as_ptr(),
+            words.len(),
+            len,
+            places.as_ptr(),
+            places.len(),
+        )
+    }
 }
 
 pub fn select1(words: &[u64], len: usize, ks: &[usize]) -> u64 {
@@ -59,13 +92,29 @@ pub fn walk(words: &[u64], len: usize) -> u64 {
 
 /// How many words the index has; 0 where the buffer is too short.
 pub fn build(words: &[u64], len: usize, over_one: bool, out: &mut [u64]) -> usize {
-    unsafe { c::bench_build(words.as_ptr(), words.len(), len, over_one, out.as_mut_ptr(), out.len()) as usize }
+    unsafe {
+        c::bench_build(
+            words.as_ptr(),
+            words.len(),
+            len,
+            over_one,
+            out.as_mut_ptr(),
+            out.len(),
+        ) as usize
+    }
 }
 
 /// # Safety
 ///
 /// `index` must be what `build` wrote for these bits, no word more, and `positions` the number of its positions.
-pub unsafe fn select(words: &[u64], len: usize, over_one: bool, index: &[u64], positions: usize, ks: &[usize]) -> u64 {
+pub unsafe fn select(
+    words: &[u64],
+    len: usize,
+    over_one: bool,
+    index: &[u64],
+    positions: usize,
+    ks: &[usize],
+) -> u64 {
     c::bench_select(
         words.as_ptr(),
         words.len(),

@@ -26,7 +26,12 @@ pub fn msb(words: &[u64]) -> u64 {
 
 #[inline(never)]
 pub fn select_in_word(words: &[u64], ks: &[usize]) -> u64 {
-    total(words.iter().zip(ks).map(|(&w, &k)| broadword::select_in_word(w, k).unwrap_or(64)))
+    total(
+        words
+            .iter()
+            .zip(ks)
+            .map(|(&w, &k)| broadword::select_in_word(w, k).unwrap_or(64)),
+    )
 }
 
 #[inline(never)]
@@ -52,7 +57,10 @@ pub fn build(bv: &BitVector, over_one: bool) -> DArrayIndex {
 #[inline(never)]
 pub fn select(bv: &BitVector, index: &DArrayIndex, ks: &[usize]) -> u64 {
     // SAFETY: the driver passes the bit vector that the index was built from.
-    total(ks.iter().map(|&k| unsafe { index.select(bv, k) }.unwrap_or(bv.len())))
+    total(
+        ks.iter()
+            .map(|&k| unsafe { index.select(bv, k) }.unwrap_or(bv.len())),
+    )
 }
 
 /// The index as the port writes it: entries, distances four to a word, overflow positions.
@@ -62,5 +70,8 @@ pub fn index_words(index: &DArrayIndex) -> Vec<u64> {
         let lane = |(i, &x): (usize, &u16)| u64::from(x) << (16 * i);
         four.iter().enumerate().map(lane).sum()
     });
-    entries.chain(lanes).chain(index.overflow_positions.iter().copied()).collect()
+    entries
+        .chain(lanes)
+        .chain(index.overflow_positions.iter().copied())
+        .collect()
 }
