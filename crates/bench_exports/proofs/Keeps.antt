@@ -15,7 +15,7 @@ use Rattle.broadword.specs.declared.Found.{Found}
 use Rattle.broadword.specs.declared.Found.the-variants.{At, Nothing}
 use Rattle.broadword.proofs.Count.{count-mono}
 use Rattle.broadword.proofs.Find.{selected}
-use Rattle.bit_vectors.specs.Vector.{bitOver, wordsFor, invalid}
+use Rattle.bit_words.specs.Vector.{bitOver, wordsFor, invalid}
 use Rattle.bit_vectors.specs.Queries.{placing}
 use Rattle.bit_vectors.specs.Walk.{Begun, begun, refusedBy, starting, Step, step, stepping, walkAt, given, newOf, nextOf, Walking}
 use Rattle.bit_vectors.specs.declared.Place.the-variants as place

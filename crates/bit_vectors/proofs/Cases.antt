@@ -12,7 +12,7 @@ use Rattle.broadword.specs.Bits.{count}
 use Rattle.broadword.specs.Fields.{flag, word}
 use Rattle.broadword.specs.Places.{last, select}
 use Rattle.broadword.specs.declared.Found.{Found}
-use Rattle.bit_vectors.specs.Vector.{bitAt, bitOver, wordsFor, invalid, numberWords, putBit, appended}
+use Rattle.bit_words.specs.Vector.{bitAt, bitOver, wordsFor, invalid, numberWords, putBit, appended}
 use Rattle.bit_vectors.specs.Queries.{foundAt, asked, accessOf, getBitsOf, getWord64Of, rank1Of, numOnesOf, selectOf, predecessor1Of, setBitOf, pushOf, fromBitOf}
 
 module _ (ws : List ℕ) (len : ℕ) where

@@ -17,8 +17,8 @@ use Rattle.broadword.specs.declared.Found.the-variants.{At, Nothing}
 use Rattle.broadword.proofs.Count.{count-mono}
 use Rattle.broadword.proofs.Find.{select-at, select-none}
 use Rattle.bit_vectors.proofs.Ahead.{rest-end, rest-from}
-use Rattle.bit_vectors.proofs.Valid.{valid}
-use Rattle.bit_vectors.specs.Vector.{bitOver, wordsFor, invalid}
+use Rattle.bit_words.proofs.Valid.{valid}
+use Rattle.bit_words.specs.Vector.{bitOver, wordsFor, invalid}
 use Rattle.bit_vectors.specs.Walk.{Begun, begun, refusedBy, Step, step, walkAt, given, newOf, stepOf, stopAt, Walking}
 use Rattle.bit_vectors.specs.declared.unary.Unary.{Unary}
 

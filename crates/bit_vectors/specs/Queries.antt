@@ -11,7 +11,7 @@ use Rattle.broadword.specs.Fields.{flag, word}
 use Rattle.broadword.specs.Places.{last, select}
 use Rattle.broadword.specs.declared.Found.{Found}
 use Rattle.broadword.specs.declared.Found.the-variants as found
-use Rattle.bit_vectors.specs.Vector.{bitAt, bitOver, wordsFor, invalid, numberWords, putBit, appended}
+use Rattle.bit_words.specs.Vector.{bitAt, bitOver, wordsFor, invalid, numberWords, putBit, appended}
 use Rattle.bit_vectors.specs.declared.Altered.{Altered}
 use Rattle.bit_vectors.specs.declared.Altered.the-variants as altered
 use Rattle.bit_vectors.specs.declared.Pushed.{Pushed}

@@ -7,7 +7,7 @@ use Rattle.errors.specs.Answer.{Answer, value, none, done, refused, Outcome, le
 use Rattle.broadword.specs.Bits.{bit, count}
 use Rattle.broadword.specs.Fields.{word}
 use Rattle.broadword.specs.Places.{last, select}
-use Rattle.bit_vectors.specs.Vector.{bitAt, bitOver, padding, invalid, numberWords, putBit, appended}
+use Rattle.bit_words.specs.Vector.{bitAt, bitOver, padding, invalid, numberWords, putBit, appended}
 use Rattle.bit_vectors.specs.Queries.{foundAt, asked, accessOf, getBitsOf, getWord64Of, rank1Of, numOnesOf, selectOf, predecessor1Of, setBitOf, pushOf, fromBitOf}
 use Rattle.bit_vectors.specs.Walk.{restOf, newOf, refusedBy, Begun, begun, walkAt, Step, stepOf, nextOf, skip1Of, skip0Of}
 use Rattle.bit_vectors.specs.declared.unary.Unary.{Unary}

@@ -12,7 +12,7 @@ use Rattle.broadword.specs.Bits.{bit, count}
 use Rattle.broadword.specs.Places.{select}
 use Rattle.broadword.specs.declared.Found.{Found}
 use Rattle.broadword.specs.declared.Found.the-variants as found
-use Rattle.bit_vectors.specs.Vector.{bitOver, wordsFor, invalid}
+use Rattle.bit_words.specs.Vector.{bitOver, wordsFor, invalid}
 use Rattle.bit_vectors.specs.Queries.{placing}
 use Rattle.bit_vectors.specs.declared.unary.Unary.{Unary}
 use Rattle.bit_vectors.specs.declared.unary.Stepped.{Stepped}

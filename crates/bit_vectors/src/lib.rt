@@ -1,7 +1,6 @@
 // Bit vectors: lent words and a length.
 pub mod bit_vector;
 pub mod unary;
-pub mod words;
 
 use errors::Refusal;
 

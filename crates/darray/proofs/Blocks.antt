@@ -9,8 +9,8 @@ use lib.Dec.{leb}
 use lib.ListN.{length}
 use Rattle.errors.specs.Answer.{pick}
 use Rattle.broadword.specs.Bits.{count}
-use Rattle.bit_vectors.specs.Vector.{bitOver}
-use Rattle.bit_vectors.proofs.Runs.{bitOver-le}
+use Rattle.bit_words.specs.Vector.{bitOver}
+use Rattle.bit_words.proofs.Runs.{bitOver-le}
 use Rattle.darray.specs.Positions.{places, positions}
 use Rattle.darray.specs.Index.{pos, size, wide, spill}
 use Rattle.darray.specs.Scan.{Position, Ahead, Inside, Spans, lastOf}

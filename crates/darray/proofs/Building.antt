@@ -10,8 +10,8 @@ use lib.ListN.{length, getD, drop, length-append, length-drop, List·getD-append
 use lib.Seq.{ext-getD, getD-append-add, getD-drop}
 use Rattle.broadword.specs.Bits.{bit, count}
 use Rattle.broadword.specs.Places.{select}
-use Rattle.bit_vectors.specs.Vector.{bitOver, wordOver}
-use Rattle.bit_vectors.proofs.Runs.{bitOver-le}
+use Rattle.bit_words.specs.Vector.{bitOver, wordOver}
+use Rattle.bit_words.proofs.Runs.{bitOver-le}
 use Rattle.darray.specs.Positions.{positions}
 use Rattle.darray.specs.Index.{pos, blocks, size, wide, spill, before, lanes, laneWords, indexWords}
 use Rattle.darray.specs.Scan.{Position, Inside, Sized, Writable}

@@ -12,7 +12,7 @@ use lib.Seq.{take-at}
 use Rattle.errors.specs.Answer.{Answer, value, refused, Outcome, leaves}
 use Rattle.broadword.specs.Places.{select}
 use Rattle.bit_vectors.specs.Queries.{foundAt}
-use Rattle.bit_vectors.specs.Vector.{bitOver, invalid}
+use Rattle.bit_words.specs.Vector.{bitOver, invalid}
 use Rattle.darray.specs.Positions.{positions}
 use Rattle.darray.specs.Index.{blocks, lanes, overflow, indexWords}
 use Rattle.darray.specs.Queries.{Measure, sizes, unmeasured, measureOf, buildOf, selectBuiltOf}

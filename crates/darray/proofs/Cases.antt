@@ -7,7 +7,7 @@ use borrow.Author.Tests.{le-leb, lt-leb, lt-ltb, le-ltb}
 use lib.ListN.{length, drop}
 use Rattle.errors.specs.Answer.{value, refused, leaves}
 use Rattle.broadword.specs.Fields.{flag}
-use Rattle.bit_vectors.specs.Vector.{invalid}
+use Rattle.bit_words.specs.Vector.{invalid}
 use Rattle.darray.specs.Positions.{positions}
 use Rattle.darray.specs.Index.{blocks, indexWords}
 use Rattle.darray.specs.Queries.{unmeasured, measuring, measureOf, buildOf, validateOf, same}

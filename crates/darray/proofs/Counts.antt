@@ -13,8 +13,8 @@ use Rattle.broadword.specs.Places.{select}
 use Rattle.broadword.specs.declared.Found.the-variants.{At, Nothing}
 use Rattle.broadword.proofs.Count.{bit-le, bit-above, bit-mod, count-add, count-le, count-same, count-zero}
 use Rattle.broadword.proofs.Find.{selected, select-at, select-some}
-use Rattle.bit_vectors.specs.Vector.{bitOver, wordOver}
-use Rattle.bit_vectors.proofs.Runs.{Fit, bitOver-le, bitOver-word, count-word, count-next}
+use Rattle.bit_words.specs.Vector.{bitOver, wordOver}
+use Rattle.bit_words.proofs.Runs.{Fit, bitOver-le, bitOver-word, count-word, count-next}
 use Rattle.darray.specs.declared.scan.Cursor.{Cursor}
 use Rattle.darray.specs.Scan.{Position, Ahead, Inside}
 use Rattle.darray.proofs.Positions.{below}

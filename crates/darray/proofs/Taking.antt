@@ -13,8 +13,8 @@ use Rattle.broadword.specs.Places.{select}
 use Rattle.broadword.specs.declared.Found.the-variants.{At, Nothing}
 use Rattle.broadword.proofs.Count.{bit-le, bit-above, count-mono, count-zero}
 use Rattle.broadword.proofs.Find.{selected, select-at, select-none, select-some}
-use Rattle.bit_vectors.specs.Vector.{bitOver, wordOver}
-use Rattle.bit_vectors.proofs.Runs.{Fit}
+use Rattle.bit_words.specs.Vector.{bitOver, wordOver}
+use Rattle.bit_words.proofs.Runs.{Fit}
 use Rattle.darray.specs.Scan.{Position}
 use Rattle.darray.specs.Pending.{Left}
 use Rattle.darray.specs.declared.pending.Rest.{Rest}

@@ -12,10 +12,10 @@ use Rattle.broadword.specs.Places.{select}
 use Rattle.broadword.specs.declared.Found.the-variants.{At, Nothing}
 use Rattle.broadword.proofs.Count.{count-le}
 use Rattle.broadword.proofs.Find.{Selected, select-none}
-use Rattle.bit_vectors.specs.Vector.{bitOver, wordsFor}
-use Rattle.bit_vectors.specs.Inner.{Findable}
-use Rattle.bit_vectors.proofs.Runs.{bitOver-le, narrow-in}
-use Rattle.bit_vectors.proofs.Valid.{valid}
+use Rattle.bit_words.specs.Vector.{bitOver, wordsFor}
+use Rattle.bit_words.specs.Inner.{Findable}
+use Rattle.bit_words.proofs.Runs.{bitOver-le, narrow-in}
+use Rattle.bit_words.proofs.Valid.{valid}
 use Rattle.darray.specs.Index.{pos, blocks, size, wide, spill, before, entry, lanes, lane, laneWord, laneWords, indexWords}
 use Rattle.darray.specs.Positions.{places, positions}
 use Rattle.darray.specs.Select.{Indexed, entryOf}

@@ -10,7 +10,7 @@ use Rattle.errors.specs.Answer.{pick}
 use Rattle.broadword.specs.Bits.{bit, count, ones}
 use Rattle.broadword.specs.Fields.{word}
 use Rattle.broadword.specs.Places.{select}
-use Rattle.bit_vectors.specs.Vector.{bitOver, wordOver}
+use Rattle.bit_words.specs.Vector.{bitOver, wordOver}
 use Rattle.darray.specs.Scan.{Position}
 use Rattle.darray.specs.declared.pending.Pending.{Pending}
 use Rattle.darray.specs.declared.pending.Rest.{Rest}

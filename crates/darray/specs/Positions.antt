@@ -4,7 +4,7 @@ use mathlib.Core.Bool.{Bool}
 use Prim.Native.Nat.{ℕ, zero, suc}
 use lib.Dec.{eqb}
 use Rattle.errors.specs.Answer.{pick}
-use Rattle.bit_vectors.specs.Vector.{bitOver}
+use Rattle.bit_words.specs.Vector.{bitOver}
 
 -- the places below n at which f is 1
 unfoldable pub places : (ℕ → ℕ) → ℕ → List ℕ

@@ -10,7 +10,7 @@ use Rattle.errors.specs.Answer.{Answer, value, refused, Outcome, leaves, pick}
 use Rattle.broadword.specs.Fields.{flag}
 use Rattle.broadword.specs.Places.{select}
 use Rattle.bit_vectors.specs.Queries.{foundAt}
-use Rattle.bit_vectors.specs.Vector.{bitOver, invalid}
+use Rattle.bit_words.specs.Vector.{bitOver, invalid}
 use Rattle.darray.specs.Positions.{positions}
 use Rattle.darray.specs.Index.{blocks, lanes, overflow, indexWords}
 use Rattle.darray.specs.declared.inner.Measured.{Measured}

@@ -5,7 +5,7 @@ use mathlib.Core.Bool.{true, false}
 use Prim.Native.Nat.{ℕ, _^_, _-_, _*_}
 use Rattle.broadword.specs.Bits.{bit, count}
 use Rattle.broadword.specs.Fields.{word}
-use Rattle.bit_vectors.specs.Vector.{bitAt, bitOver}
+use Rattle.bit_words.specs.Vector.{bitAt, bitOver}
 use Rattle.darray.specs.Positions.{places, positions}
 use Rattle.darray.specs.Index.{table, pos, blocks, size, wide, spill, before, entry, lanes, lane, laneWord, laneWords, overflow, indexWords}
 

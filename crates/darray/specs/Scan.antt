@@ -4,7 +4,7 @@ use mathlib.Core.Path.{_≡_}
 use mathlib.Core.List.{List}
 use Prim.Native.Nat.{ℕ, _+_, _-_, _*_, _^_, _≤_, _<_, min}
 use lib.ListN.{length}
-use Rattle.bit_vectors.specs.Vector.{wordsFor}
+use Rattle.bit_words.specs.Vector.{wordsFor}
 use Rattle.broadword.specs.Bits.{count}
 use Rattle.darray.specs.declared.scan.Cursor.{Cursor}
 use Rattle.darray.specs.declared.scan.Hit.{Hit}

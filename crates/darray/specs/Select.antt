@@ -8,7 +8,7 @@ use lib.IntN.{ℤ, pos, negsuc}
 use lib.ListN.{length}
 use Rattle.errors.specs.Answer.{pick}
 use Rattle.broadword.specs.Places.{SelectInByte}
-use Rattle.bit_vectors.specs.Vector.{invalid}
+use Rattle.bit_words.specs.Vector.{invalid}
 use Rattle.darray.specs.Index.{indexWords}
 use Rattle.darray.specs.Positions.{positions}
 use Rattle.darray.specs.declared.select.Entry.{Entry}

@@ -9,7 +9,7 @@ ghost use mathlib.Core.List.{_++_};
 ghost use Prim.Native.Nat.{_+_, _/_, _^_, _≤_, _<_};
 ghost use lib.ListN.{length, drop};
 ghost use Rattle.errors.specs.Answer.{leaves};
-ghost use Rattle.bit_vectors.specs.Vector.{wordsFor};
+ghost use Rattle.bit_words.specs.Vector.{wordsFor};
 ghost use Rattle.darray.specs.Positions.{positions};
 ghost use Rattle.darray.specs.Index.{indexWords};
 ghost use Rattle.darray.specs.Pending.{Decides};
@@ -27,7 +27,7 @@ use crate::scan::block_size;
 use crate::scan::count_positions;
 use crate::scan::ends;
 use crate::scan::spilled;
-use bit_vectors::words::is_invalid;
+use bit_words::is_invalid;
 use broadword::select_in_byte_table;
 use errors::Refusal;
 

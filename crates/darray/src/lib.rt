@@ -5,7 +5,7 @@ ghost use mathlib.Core.Path.{_≡_};
 ghost use mathlib.Core.Bool.{true, false};
 ghost use Rattle.errors.specs.Answer.{leaves};
 ghost use Rattle.broadword.specs.Places.{select as selectBit};
-ghost use Rattle.bit_vectors.specs.Vector.{bitOver};
+ghost use Rattle.bit_words.specs.Vector.{bitOver};
 ghost use Rattle.bit_vectors.specs.Queries.{bitting, placing, foundAt, accessOf};
 ghost use Rattle.darray.specs.Queries.{selectBuiltOf};
 ghost use Rattle.darray.specs.Select.{Indexed};

@@ -7,15 +7,15 @@ ghost use Rattle.errors.specs.Answer.{pick};
 ghost use Rattle.broadword.specs.Bits.{bit};
 ghost use Rattle.broadword.specs.Places.{select, SelectInByte};
 ghost use Rattle.broadword.specs.declared.Found.the-variants.{At};
-ghost use Rattle.bit_vectors.specs.Vector.{bitOver};
+ghost use Rattle.bit_words.specs.Vector.{bitOver};
 ghost use Rattle.darray.specs.Scan.{Position, Ahead, Inside};
 ghost use Rattle.darray.specs.Pending.{Left, Taken, Sampled, Rising, blockWide, blockSpill, blockLane, blockLaneWord, put, flushed, Flushable, emptied, Decides, Reads, Matches};
 use crate::inner::SUBBLOCK_LEN;
 use crate::scan::Span;
 use crate::scan::find;
 use crate::scan::is_wide;
-use bit_vectors::words::WORD_LEN;
-use bit_vectors::words::word_over;
+use bit_words::WORD_LEN;
+use bit_words::word_over;
 use broadword::bsf64;
 
 // Positions, and how many of them are pending.

@@ -6,12 +6,12 @@ ghost use Prim.Native.Nat.{_+_, _*_, _/_, _%_, _^_, _<_};
 ghost use lib.Bits.{bitAnd};
 ghost use lib.ListN.{length, getD};
 ghost use Rattle.broadword.specs.Places.{select as selectBit};
-ghost use Rattle.bit_vectors.specs.Vector.{bitOver};
+ghost use Rattle.bit_words.specs.Vector.{bitOver};
 ghost use Rattle.darray.specs.Select.{Indexed, signedOf, entryOf};
 use crate::inner::BLOCK_LEN;
 use crate::inner::SUBBLOCK_LEN;
-use bit_vectors::words::find_from;
-use bit_vectors::words::words_for;
+use bit_words::find_from;
+use bit_words::words_for;
 use broadword::Found;
 
 // A block's entry: its first position, or where its overflow positions begin.

@@ -5,9 +5,9 @@ use mathlib.Core.Path.{_≡_, sym, ap, _∙_}
 use Prim.Native.Nat.{ℕ, _+_, _-_, _*_, _/_, _%_, _^_, _≤_, _<_}
 use native.Mathlib.Omega.{arith}
 use Rattle.errors.specs.Answer.{value}
-use Rattle.bit_vectors.proofs.Runs.{bit-flag}
+use Rattle.bit_words.proofs.Runs.{bit-flag}
 use Rattle.bit_vectors.proofs.Cases as cases
-use Rattle.bit_vectors.proofs.Valid.{valid}
+use Rattle.bit_words.proofs.Valid.{valid}
 use Rattle.bit_vectors.proofs.bit_vector.access.Statement.{statement}
 use Rattle.bit_vectors.proofs.bit_vector.access.Tie as tie
 

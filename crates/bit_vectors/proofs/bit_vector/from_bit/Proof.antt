@@ -11,7 +11,7 @@ use lib.ListN.{length, length-replicate, length-append, length-drop, replicate, 
 use Rattle.errors.specs.Answer.{done, leaves}
 use Rattle.broadword.specs.Fields.{flag}
 use Rattle.bit_vectors.proofs.Cases as cases
-use Rattle.bit_vectors.proofs.Packed.{filled, filled-part}
+use Rattle.bit_words.proofs.Packed.{filled, filled-part}
 use Rattle.bit_vectors.proofs.bit_vector.from_bit.Statement.{statement}
 use Rattle.bit_vectors.proofs.bit_vector.from_bit.Tie as tie
 

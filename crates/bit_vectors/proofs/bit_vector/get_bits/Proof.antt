@@ -6,10 +6,10 @@ use Prim.Native.Nat.{ℕ, _+_, _-_, _*_, _/_, _%_, _^_, _≤_, _<_}
 use native.Mathlib.Omega.{arith}
 use Rattle.errors.specs.Answer.{value}
 use Rattle.broadword.specs.Fields.{word}
-use Rattle.bit_vectors.specs.Vector.{bitAt}
-use Rattle.bit_vectors.proofs.Windows.{narrowed}
+use Rattle.bit_words.specs.Vector.{bitAt}
+use Rattle.bit_words.proofs.Windows.{narrowed}
 use Rattle.bit_vectors.proofs.Cases as cases
-use Rattle.bit_vectors.proofs.Valid.{valid}
+use Rattle.bit_words.proofs.Valid.{valid}
 use Rattle.bit_vectors.proofs.bit_vector.get_bits.Statement.{statement}
 use Rattle.bit_vectors.proofs.bit_vector.get_bits.Tie as tie
 

@@ -7,9 +7,9 @@ use native.Mathlib.Omega.{arith}
 use lib.ListN.{take}
 use Rattle.errors.specs.Answer.{value}
 use Rattle.broadword.specs.Fields.{word}
-use Rattle.bit_vectors.specs.Vector.{bitAt}
+use Rattle.bit_words.specs.Vector.{bitAt}
 use Rattle.bit_vectors.proofs.Cases as cases
-use Rattle.bit_vectors.proofs.Valid.{valid}
+use Rattle.bit_words.proofs.Valid.{valid}
 use Rattle.bit_vectors.proofs.bit_vector.get_word64.Statement.{statement}
 use Rattle.bit_vectors.proofs.bit_vector.get_word64.Tie as tie
 

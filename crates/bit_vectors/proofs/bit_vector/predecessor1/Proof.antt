@@ -7,9 +7,9 @@ use native.Mathlib.Omega.{arith}
 use Rattle.broadword.specs.Bits.{bit}
 use Rattle.broadword.specs.Places.{last}
 use Rattle.broadword.specs.declared.Found.the-variants.{At, Nothing}
-use Rattle.bit_vectors.proofs.Last as last-word
+use Rattle.bit_words.proofs.Last as last-word
 use Rattle.bit_vectors.proofs.Cases as cases
-use Rattle.bit_vectors.proofs.Valid.{valid}
+use Rattle.bit_words.proofs.Valid.{valid}
 use Rattle.bit_vectors.proofs.bit_vector.predecessor1.Statement.{statement}
 use Rattle.bit_vectors.proofs.bit_vector.predecessor1.Tie as tie
 

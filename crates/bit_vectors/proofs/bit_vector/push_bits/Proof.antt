@@ -8,10 +8,10 @@ use native.Mathlib.Omega.{arith}
 use mathlib.Core.List.{List}
 use lib.Pow.{pow-pos}
 use Rattle.errors.specs.Answer.{Answer, value, leaves}
-use Rattle.bit_vectors.specs.Vector.{appended, wordsFor}
+use Rattle.bit_words.specs.Vector.{appended, wordsFor}
 use Rattle.bit_vectors.proofs.Cases as cases
-use Rattle.bit_vectors.proofs.Packed.{push-nothing}
-use Rattle.bit_vectors.proofs.Valid.{valid}
+use Rattle.bit_words.proofs.Packed.{push-nothing}
+use Rattle.bit_words.proofs.Valid.{valid}
 use Rattle.bit_vectors.proofs.bit_vector.push_bits.Statement.{statement}
 use Rattle.bit_vectors.proofs.bit_vector.push_bits.Tie as tie
 

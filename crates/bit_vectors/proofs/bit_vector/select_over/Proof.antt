@@ -8,10 +8,10 @@ use native.Mathlib.Nat.{zero-add}
 use Rattle.broadword.specs.Bits.{count}
 use Rattle.broadword.specs.Places.{select}
 use Rattle.broadword.specs.declared.Found.the-variants.{At, Nothing}
-use Rattle.bit_vectors.specs.Vector.{bitOver}
+use Rattle.bit_words.specs.Vector.{bitOver}
 use Rattle.bit_vectors.proofs.Cases as cases
-use Rattle.bit_vectors.proofs.Runs.{bitOver-le, from-first, narrow-in, narrow-past, narrow-none, select-empty}
-use Rattle.bit_vectors.proofs.Valid.{valid}
+use Rattle.bit_words.proofs.Runs.{bitOver-le, from-first, narrow-in, narrow-past, narrow-none, select-empty}
+use Rattle.bit_words.proofs.Valid.{valid}
 use Rattle.bit_vectors.proofs.bit_vector.select_over.Statement.{statement}
 use Rattle.bit_vectors.proofs.bit_vector.select_over.Tie as tie
 

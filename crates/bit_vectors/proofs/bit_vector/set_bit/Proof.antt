@@ -7,7 +7,7 @@ use native.Mathlib.Omega.{arith}
 use lib.ListN.{set}
 use Rattle.errors.specs.Answer.{done, leaves}
 use Rattle.bit_vectors.proofs.Cases as cases
-use Rattle.bit_vectors.proofs.Valid.{valid}
+use Rattle.bit_words.proofs.Valid.{valid}
 use Rattle.bit_vectors.proofs.bit_vector.set_bit.Statement.{statement}
 use Rattle.bit_vectors.proofs.bit_vector.set_bit.Tie as tie
 

@@ -7,7 +7,7 @@ use native.Mathlib.Omega.{arith}
 use Rattle.bit_vectors.specs.Walk.{begun, step, Step}
 use Rattle.errors.specs.Answer.{none}
 use Rattle.bit_vectors.proofs.Steps as steps
-use Rattle.bit_vectors.proofs.Valid.{valid}
+use Rattle.bit_words.proofs.Valid.{valid}
 use Rattle.bit_vectors.proofs.unary.new.Statement.{statement}
 use Rattle.bit_vectors.proofs.unary.new.Tie as tie
 

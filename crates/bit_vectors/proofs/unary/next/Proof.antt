@@ -9,7 +9,7 @@ use native.Mathlib.Nat.{le-refl}
 use Rattle.bit_vectors.specs.Walk.{stepping, Walking}
 use Rattle.bit_vectors.specs.declared.unary.Unary.{Unary}
 use Rattle.bit_vectors.proofs.Steps as steps
-use Rattle.bit_vectors.proofs.Valid.{valid}
+use Rattle.bit_words.proofs.Valid.{valid}
 use Rattle.bit_vectors.proofs.unary.next.Statement.{statement}
 use Rattle.bit_vectors.proofs.unary.next.Tie as tie
 

@@ -6,11 +6,11 @@ use Prim.Native.Nat.{ℕ, _+_, _-_, _*_, _/_, _%_, _^_, _≤_, _<_}
 use native.Mathlib.Omega.{arith}
 use Rattle.broadword.specs.Bits.{count}
 use Rattle.broadword.proofs.Find.{selected}
-use Rattle.bit_vectors.specs.Vector.{bitOver}
+use Rattle.bit_words.specs.Vector.{bitOver}
 use Rattle.bit_vectors.specs.Walk.{stepping}
-use Rattle.bit_vectors.proofs.Runs.{bitOver-le, select-few}
+use Rattle.bit_words.proofs.Runs.{bitOver-le, select-few}
 use Rattle.bit_vectors.proofs.Steps as steps
-use Rattle.bit_vectors.proofs.Valid.{valid}
+use Rattle.bit_words.proofs.Valid.{valid}
 use Rattle.bit_vectors.proofs.unary.skip_over.Statement.{statement}
 use Rattle.bit_vectors.proofs.unary.skip_over.Tie as tie
 

@@ -9,7 +9,7 @@ use Rattle.errors.specs.Answer.{value}
 use Rattle.bit_vectors.specs.Walk.{step, stepping, walkAt}
 use Rattle.bit_vectors.specs.declared.unary.Unary.{Unary}
 use Rattle.bit_vectors.proofs.Steps as steps
-use Rattle.bit_vectors.proofs.Valid.{valid}
+use Rattle.bit_words.proofs.Valid.{valid}
 use Rattle.bit_vectors.proofs.unary.stop.Statement.{statement}
 use Rattle.bit_vectors.proofs.unary.stop.Tie as tie
 

@@ -4,7 +4,7 @@ use borrow.Author.Needs.{needs}
 use mathlib.Core.Path.{_≡_, refl, sym, ap, ap₂, _∙_, subst}
 use Prim.Native.Nat.{ℕ, _+_, _-_, _*_, _/_, _%_, _^_, _≤_, _<_}
 use Rattle.bit_vectors.specs.declared.unary.Unary.{Unary}
-use Rattle.bit_vectors.proofs.Ahead.{shifted-rest}
+use Rattle.bit_words.proofs.Search.{shifted-rest}
 use lib.ListN.{getD}
 use Rattle.bit_vectors.proofs.unary.walk_from.Statement.{statement}
 use Rattle.bit_vectors.proofs.unary.walk_from.Tie as tie

@@ -9,7 +9,7 @@ use native.Mathlib.Omega.{arith}
 use lib.Dec.{leb}
 use lib.ListN.{length, length-replicate}
 use Rattle.broadword.specs.Bits.{count}
-use Rattle.bit_vectors.specs.Vector.{bitOver}
+use Rattle.bit_words.specs.Vector.{bitOver}
 use Rattle.darray.specs.Positions.{positions}
 use Rattle.darray.specs.Index.{before}
 use Rattle.darray.specs.Scan.{Position, Ahead}

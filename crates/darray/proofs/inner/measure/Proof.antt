@@ -2,7 +2,7 @@
 -- Assumes nothing.
 use borrow.Author.Needs.{needs}
 use mathlib.Core.Path.{sym, _∙_}
-use Rattle.bit_vectors.proofs.Valid.{valid}
+use Rattle.bit_words.proofs.Valid.{valid}
 use Rattle.darray.proofs.Cases as cases
 use Rattle.darray.proofs.inner.measure.Statement.{statement}
 use Rattle.darray.proofs.inner.measure.Tie as tie

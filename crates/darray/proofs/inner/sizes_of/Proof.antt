@@ -8,7 +8,7 @@ use native.Mathlib.Omega.{arith}
 use lib.Dec.{leb}
 use Rattle.errors.specs.Answer.{pick}
 use Rattle.broadword.specs.Bits.{count}
-use Rattle.bit_vectors.specs.Vector.{bitOver}
+use Rattle.bit_words.specs.Vector.{bitOver}
 use Rattle.darray.specs.Positions.{positions}
 use Rattle.darray.specs.Index.{blocks, before, lanes, spill}
 use Rattle.darray.specs.Scan.{Ahead}

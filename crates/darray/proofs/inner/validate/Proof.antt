@@ -7,7 +7,7 @@ use native.Mathlib.Nat.{le-of-eq}
 use lib.ListN.{length}
 use Rattle.errors.specs.Answer.{value}
 use Rattle.broadword.specs.Fields.{flag}
-use Rattle.bit_vectors.proofs.Valid.{valid}
+use Rattle.bit_words.proofs.Valid.{valid}
 use Rattle.darray.specs.Positions.{positions}
 use Rattle.darray.specs.Index.{indexWords}
 use Rattle.darray.proofs.Building as building

@@ -8,7 +8,7 @@ use native.Mathlib.Nat.{not-suc-le-zero}
 use native.Mathlib.Omega.{arith}
 use lib.ListN.{length, getD, set, length-set}
 use lib.Seq.{getD-set-same, getD-set-other}
-use Rattle.bit_vectors.specs.Vector.{bitOver, wordOver}
+use Rattle.bit_words.specs.Vector.{bitOver, wordOver}
 use Rattle.darray.specs.Scan.{Position, Inside}
 use Rattle.darray.specs.Pending.{Left}
 use Rattle.darray.proofs.Blocks as blocks

@@ -8,7 +8,7 @@ use native.Mathlib.Nat.{not-suc-le-zero}
 use native.Mathlib.Omega.{arith}
 use lib.Dec.{leb}
 use lib.ListN.{length, getD, length-set}
-use Rattle.bit_vectors.specs.Vector.{bitOver}
+use Rattle.bit_words.specs.Vector.{bitOver}
 use Rattle.darray.specs.Scan.{Position, Ahead}
 use Rattle.darray.specs.Pending.{Due}
 use Rattle.darray.proofs.Blocks as blocks

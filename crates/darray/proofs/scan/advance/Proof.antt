@@ -6,7 +6,7 @@ use Prim.Native.Nat.{ℕ, _+_, _-_, _*_, _≤_, _<_}
 use native.Mathlib.Omega.{arith}
 use lib.ListN.{length, getD}
 use Rattle.broadword.specs.Bits.{count, ones}
-use Rattle.bit_vectors.specs.Vector.{bitOver, wordOver}
+use Rattle.bit_words.specs.Vector.{bitOver, wordOver}
 use Rattle.darray.proofs.Counts as scan
 use Rattle.darray.proofs.scan.advance.Statement.{statement}
 use Rattle.darray.proofs.scan.advance.Tie as tie

@@ -7,7 +7,7 @@ use native.Mathlib.Omega.{arith}
 use lib.ListN.{getD}
 use lib.Pow.{pow-pos}
 use Rattle.broadword.specs.Bits.{count, ones}
-use Rattle.bit_vectors.specs.Vector.{bitOver}
+use Rattle.bit_words.specs.Vector.{bitOver}
 use Rattle.darray.proofs.Counts as scan
 use Rattle.darray.proofs.scan.count_positions.Statement.{statement}
 use Rattle.darray.proofs.scan.count_positions.Tie as tie

@@ -7,7 +7,7 @@ use native.Mathlib.Omega.{arith}
 use Rattle.broadword.specs.Bits.{bit}
 use Rattle.broadword.specs.Places.{select}
 use Rattle.broadword.specs.declared.Found.the-variants.{At, Nothing}
-use Rattle.bit_vectors.specs.Vector.{bitOver}
+use Rattle.bit_words.specs.Vector.{bitOver}
 use Rattle.darray.specs.Scan.{Position}
 use Rattle.darray.proofs.Counts as scan
 use Rattle.darray.proofs.scan.find.Statement.{statement}

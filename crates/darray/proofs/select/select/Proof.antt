@@ -6,7 +6,7 @@ use Prim.Native.Nat.{ℕ, _+_, _*_, _/_, _%_, _≤_, _<_}
 use native.Mathlib.Omega.{arith}
 use Rattle.broadword.specs.Bits.{count}
 use Rattle.broadword.specs.Places.{select}
-use Rattle.bit_vectors.specs.Vector.{bitOver}
+use Rattle.bit_words.specs.Vector.{bitOver}
 use Rattle.darray.proofs.Through as through
 use Rattle.darray.proofs.select.select.Statement.{statement}
 use Rattle.darray.proofs.select.select.Tie as tie

@@ -1,0 +1,233 @@
+// The words of a bit vector: what the calls on it, and the layers that hold words of their own, share.
+//
+// `words_for` and `is_invalid` take anything. The others are inner: each demands the words that it reads, as its `requires` says.
+ghost use mathlib.Core.Path.{_≡_};
+ghost use Prim.Native.Nat.{_+_, _-_, _*_, _/_, _%_, _^_, _<_, _≤_};
+ghost use mathlib.Core.List.{_++_};
+ghost use lib.ListN.{length, getD, take, drop, replicate};
+ghost use Rattle.broadword.specs.Bits.{count};
+ghost use Rattle.broadword.specs.Places.{select};
+ghost use Rattle.broadword.specs.Fields.{flag, word};
+ghost use Rattle.bit_words.specs.Vector.{bitAt, bitOver, wordsFor, invalid, wordOver, putBit, appended};
+ghost use Rattle.bit_words.specs.Inner.{Skipped, Ending, Appendable, Within, placeIn, Findable};
+use broadword::Found;
+use broadword::popcount;
+use broadword::select_in_word_by;
+
+pub const WORD_LEN: usize = 64;
+
+// How many words the bits of a length use.
+pub fn words_for(len: usize) -> usize
+    ensures { λ r. ⌜ r ≡ wordsFor len ⌝ }
+{
+    let whole = len / WORD_LEN;
+    if len % WORD_LEN == 0 {
+        whole
+    } else {
+        whole + 1
+    }
+}
+
+// Whether the words are no bit vector of this length: too few of them, or a bit past it is set.
+pub fn is_invalid(words: &[u64], len: usize) -> bool
+    ensures { λ r. ⌜ r ≡ invalid (now (words .entry)) len ⌝ }
+{
+    let used = words_for(len);
+    if words.len() < used {
+        return true;
+    }
+    let left = len % WORD_LEN;
+    if left == 0 {
+        return false;
+    }
+    let last = len / WORD_LEN;
+    words[last] >> left != 0
+}
+
+// The word whose ones are the ones, or the zeros, of the word i.
+pub fn word_over(words: &[u64], i: usize, over_one: bool) -> u64
+    requires { ⌜ i < length (now words) ⌝ }
+    ensures { λ r. ⌜ r ≡ wordOver «over_one» (getD (now (words .entry)) i 0) ⌝ }
+{
+    if over_one { words[i] } else { !words[i] }
+}
+
+// The lowest bits of x.
+pub fn low_bits(x: u64, width: usize) -> u64
+    requires { ⌜ width ≤ 64 ⌝ }
+    ensures { λ r. ⌜ r ≡ x % 2 ^ width ⌝ }
+{
+    if width == WORD_LEN {
+        return x;
+    }
+    x & ((1 << width) - 1)
+}
+
+// The 64 bits from pos on, of the first `used` words.
+pub fn window(words: &[u64], used: usize, pos: usize) -> u64
+    requires { ⌜ ((pos / 64 < used) × (used ≤ length (now words))) ⌝ }
+    ensures { λ r. ⌜ r ≡ word 1 (λ i. bitAt (take used (now (words .entry))) (pos + i)) 64 ⌝ }
+{
+    let at = pos / WORD_LEN;
+    let shift = pos % WORD_LEN;
+    let low = words[at] >> shift;
+    if shift == 0 {
+        return low;
+    }
+    if used <= at + 1 {
+        return low;
+    }
+    low | (words[at + 1] << (WORD_LEN - shift))
+}
+
+// The ones below pos.
+pub fn rank_words(words: &[u64], pos: usize) -> usize
+    requires { ⌜ pos ≤ length (now words) * 64 ⌝ }
+    ensures { λ r. ⌜ r ≡ count (bitAt (now (words .entry))) pos ⌝ }
+{
+    let whole = pos / WORD_LEN;
+    let left = pos % WORD_LEN;
+    let mut r: usize = 0;
+    let mut i = 0;
+    while i < whole {
+        r += popcount(words[i]);
+        i += 1;
+    }
+    if left == 0 {
+        return r;
+    }
+    r + popcount(words[whole] << (WORD_LEN - left))
+}
+
+// A word, and how many ones of it stand before the one that was looked for.
+pub struct Spot {
+    pub word: usize,
+    pub left: usize,
+}
+
+// The word, from the word `first` on, in which the one with k before it stands, counted from that word on; `used` where none has it.
+pub fn skip_words(words: &[u64], first: usize, used: usize, over_one: bool, k: usize) -> Spot
+    requires { ⌜ ((first ≤ used) × (used ≤ length (now words))) ⌝ }
+    ensures { λ r. ⌜ Skipped (bitOver «over_one» (now (words .entry))) first used k (r .word) (r .left) ⌝ }
+{
+    let mut word = first;
+    let mut left = k;
+    while word < used {
+        let ones = popcount(word_over(words, word, over_one));
+        if left < ones {
+            break;
+        }
+        left -= ones;
+        word += 1;
+    }
+    Spot { word, left }
+}
+
+// A place in the word i, as a place in the words.
+fn place_in(i: usize, found: Found) -> Found
+    requires { ⌜ ((i < 2 ^ 58) × Within found) ⌝ }
+    ensures { λ r. ⌜ r ≡ placeIn i found ⌝ }
+{
+    match found {
+        Found::At(bit) => Found::At(i * WORD_LEN + bit),
+        Found::Nothing => Found::Nothing,
+    }
+}
+
+// The place of the one, or the zero, that k of its kind stand before from the place `from` on, in the first `used` words.
+pub fn find_from(
+    words: &[u64],
+    used: usize,
+    over_one: bool,
+    table: &[u8; 2048],
+    from: usize,
+    k: usize,
+) -> Found
+    requires { ⌜ Findable (now words) used from (now table) ⌝ }
+    ensures { λ r. ⌜ r ≡ select (bitOver «over_one» (now (words .entry))) (used * 64) (count (bitOver «over_one» (now (words .entry))) from + k) ⌝ }
+{
+    let at = from / WORD_LEN;
+    let shift = from % WORD_LEN;
+    let first = (word_over(words, at, over_one) >> shift) << shift;
+    let ones = popcount(first);
+    if k < ones {
+        return place_in(at, select_in_word_by(table, first, k));
+    }
+    let spot = skip_words(words, at + 1, used, over_one, k - ones);
+    let word = spot.word;
+    let left = spot.left;
+    if word == used {
+        return Found::Nothing;
+    }
+    place_in(
+        word,
+        select_in_word_by(table, word_over(words, word, over_one), left),
+    )
+}
+
+// How many of the first `end` words there are up to the last that is not 0.
+pub fn last_used(words: &[u64], end: usize) -> usize
+    requires { ⌜ end ≤ length (now words) ⌝ }
+    ensures { λ r. ⌜ Ending (now (words .entry)) end r ⌝ }
+{
+    let mut n = end;
+    while 0 < n {
+        let i = n - 1;
+        if words[i] != 0 {
+            break;
+        }
+        n = i;
+    }
+    n
+}
+
+// The first n words are set to x.
+pub fn fill(words: &mut [u64], n: usize, x: u64)
+    requires { ⌜ n ≤ length (now words) ⌝ }
+    ensures { λ _. ⌜ now (words .exit) ≡ replicate n x ++ drop n (now (words .entry)) ⌝ }
+{
+    let mut i = 0;
+    while i < n {
+        words[i] = x;
+        i += 1;
+    }
+}
+
+pub fn bit_word(bit: bool) -> u64
+    ensures { λ r. ⌜ r ≡ flag bit ⌝ }
+{
+    if bit { 1 } else { 0 }
+}
+
+// The word with `bit` at every place.
+pub fn repeated(bit: bool) -> u64
+    ensures { λ r. ⌜ r ≡ flag bit * (2 ^ 64 - 1) ⌝ }
+{
+    if bit { u64::MAX } else { 0 }
+}
+
+// The word with its bit at the place `shift` set to `bit`.
+pub fn with_bit(w: u64, shift: usize, bit: bool) -> u64
+    requires { ⌜ shift < 64 ⌝ }
+    ensures { λ r. ⌜ r ≡ putBit w shift (flag bit) ⌝ }
+{
+    (w & !(1 << shift)) | (bit_word(bit) << shift)
+}
+
+// The bits x, fewer than 2^width, are written from the place len on. A word that was not used is overwritten whole.
+pub fn append(words: &mut [u64], len: usize, x: u64, width: usize)
+    requires { ⌜ Appendable (now words) len x width ⌝ }
+    ensures { λ _. ⌜ now (words .exit) ≡ appended (now (words .entry)) len x width ⌝ }
+{
+    let at = len / WORD_LEN;
+    let shift = len % WORD_LEN;
+    let last = words[at];
+    if shift == 0 {
+        words[at] = x;
+        return;
+    }
+    words[at] = last | (x << shift);
+    if WORD_LEN - shift < width {
+        words[at + 1] = x >> (WORD_LEN - shift);
+    }
+}
