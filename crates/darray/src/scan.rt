@@ -56,13 +56,46 @@ pub fn count_positions(words: &[u64], len: usize, over_one: bool) -> usize
     n + popcount(word_over(words, whole, over_one) % (1u64 << left))
 }
 
+// The number of positions in the eight words from the word i on.
+fn count_eight(words: &[u64], i: usize, over_one: bool) -> usize
+    requires { ⌜ i + 8 ≤ length (now words) ⌝ }
+    ensures { λ r. ⌜ count (bitOver «over_one» (now (words .entry))) (i * 64) + r ≡ count (bitOver «over_one» (now (words .entry))) ((i + 8) * 64) ⌝ }
+{
+    let mut n: usize = 0;
+    let mut j: usize = 0;
+    while j < 8 {
+        n += popcount(word_over(words, i + j, over_one));
+        j += 1;
+    }
+    n
+}
+
+// A cursor less than eight words before the word of the position with the number k, or less than eight before the end.
+fn leap(words: &[u64], over_one: bool, from: Cursor, k: usize) -> Cursor
+    requires { ⌜ (Ahead (bitOver «over_one» (now words)) from k × Inside (bitOver «over_one» (now words)) (length (now words)) k) ⌝ }
+    ensures { λ r. ⌜ Ahead (bitOver «over_one» (now (words .entry))) r k ⌝ }
+{
+    let mut word = from.word;
+    let mut before = from.before;
+    while word + 8 <= words.len() {
+        let n = count_eight(words, word, over_one);
+        if k - before < n {
+            break;
+        }
+        before += n;
+        word += 8;
+    }
+    Cursor { word, before }
+}
+
 // A cursor at the word of the position with the number k.
 pub fn advance(words: &[u64], over_one: bool, from: Cursor, k: usize) -> Cursor
     requires { ⌜ (Ahead (bitOver «over_one» (now words)) from k × Inside (bitOver «over_one» (now words)) (length (now words)) k) ⌝ }
     ensures { λ r. ⌜ (Ahead (bitOver «over_one» (now (words .entry))) r k × (r .word < length (now (words .entry))) × (k < r .before + ones (wordOver «over_one» (getD (now (words .entry)) (r .word) 0)) 64)) ⌝ }
 {
-    let mut word = from.word;
-    let mut before = from.before;
+    let near = leap(words, over_one, from, k);
+    let mut word = near.word;
+    let mut before = near.before;
     let mut n = popcount(word_over(words, word, over_one));
     while n <= k - before {
         before += n;

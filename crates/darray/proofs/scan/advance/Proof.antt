@@ -18,23 +18,27 @@ Inv-loop words over-one k word₀ before₀ n₀ word before n =
 abbrev μ-loop : tie.MeasureT-loop
 μ-loop words over-one k word₀ before₀ n₀ word before n = length words - word
 
+leap-requires : tie.Need-leap-requires Inv-loop μ-loop
+leap-requires c κs = c .before .pre
+
 -- the first word is there
-start : (c : tie.Start Inv-loop μ-loop) → c .args .from .word < length (c .args .words .now)
+start : (c : tie.After-leap Inv-loop μ-loop) → c .leap .result .word < length (c .before .before .args .words .now)
 start c =
-    let a = c .args in
-    scan.word-below (a .over-one) (a .words .now) (a .from .word) (a .k) (subst (λ (x : ℕ). x ≤ a .k) (c .pre .0 .counted) (c .pre .0 .to-come)) (c .pre .1)
+    let a = c .before .before .args in
+    let r = c .leap .ensures in
+    scan.word-below (a .over-one) (a .words .now) (c .leap .result .word) (a .k) (subst (λ (x : ℕ). x ≤ a .k) (r .counted) (r .to-come)) (c .before .before .pre .1)
 
 word-over-requires : tie.Need-word-over-requires Inv-loop μ-loop
-word-over-requires c κs = start (c .before)
+word-over-requires c κs = start c
 
 popcount-requires : tie.Need-popcount-requires Inv-loop μ-loop
 popcount-requires c κs = search needs
 
 loop-holds : tie.Need-loop-holds Inv-loop μ-loop
 loop-holds c = (
-  start (c .before .before .before),
-  c .before .before .before .pre .0 .counted,
-  c .before .before .before .pre .0 .to-come,
+  start (c .before .before),
+  c .before .before .leap .ensures .counted,
+  c .before .before .leap .ensures .to-come,
   c .popcount .ensures ∙ ap (λ (w : ℕ). ones w 64) (c .before .word-over .ensures),
 )
 
@@ -49,14 +53,14 @@ add-word c = omega arith
 
 -- the next word is there
 next : (c : tie.In-loop Inv-loop μ-loop)
-    → (c .before .loop .before + c .before .loop .n ≡ count (bitOver (c .before .before .before .before .before .args .over-one) (c .before .before .before .before .before .args .words .now)) ((c .before .loop .word + 1) * 64))
-    × (c .before .loop .word + 1 < length (c .before .before .before .before .before .args .words .now))
+    → (c .before .loop .before + c .before .loop .n ≡ count (bitOver (c .before .before .before .before .before .before .args .over-one) (c .before .before .before .before .before .before .args .words .now)) ((c .before .loop .word + 1) * 64))
+    × (c .before .loop .word + 1 < length (c .before .before .before .before .before .before .args .words .now))
 next c =
-    let a = c .before .before .before .before .before .args in
+    let a = c .before .before .before .before .before .before .args in
     let l = c .before .loop in
-    let e = scan.count-up (a .over-one) (a .words .now) (λ i. c .before .before .before .before .shared-slice-known .given i .fits) (l .before) (l .word) (l .n) (l .inv .1) (l .inv .3) in
+    let e = scan.count-up (a .over-one) (a .words .now) (λ i. c .before .before .before .before .before .shared-slice-known .given i .fits) (l .before) (l .word) (l .n) (l .inv .1) (l .inv .3) in
     let g : l .before + l .n ≤ a .k = omega arith in
-    (e, scan.word-below (a .over-one) (a .words .now) (l .word + 1) (a .k) (subst (λ (x : ℕ). x ≤ a .k) e g) (c .before .before .before .before .before .pre .1))
+    (e, scan.word-below (a .over-one) (a .words .now) (l .word + 1) (a .k) (subst (λ (x : ℕ). x ≤ a .k) e g) (c .before .before .before .before .before .before .pre .1))
 
 word-over-requires-2 : tie.Need-word-over-requires-2 Inv-loop μ-loop
 word-over-requires-2 c κs = next c .1
@@ -86,6 +90,7 @@ advance-spec =
     (tie.spec
     Inv-loop
     μ-loop
+    leap-requires
     word-over-requires
     popcount-requires
     loop-holds
