@@ -2,13 +2,13 @@
 use mathlib.Core.Path.{_≡_, refl, sym, ap, _∙_, subst}
 use mathlib.Core.List.{List}
 use mathlib.Core.Bool.{Bool, true, false}
-use Prim.Native.Nat.{ℕ, _+_, _-_, _*_, _/_, _%_, _^_, _≤_, _<_}
+use Prim.Native.Nat.{ℕ, _+_, _-_, _/_, _≤_, _<_}
 use native.Mathlib.Nat.{le-refl, lt-of-not-le}
 use native.Mathlib.Numerals.{add-one}
 use native.Mathlib.Decide.{decLt}
 use native.Mathlib.Omega.{arith}
 use lib.Dec.{leb}
-use Rattle.errors.specs.Answer.{Answer, value, none, pick}
+use Rattle.errors.specs.Answer.{value, none}
 use Rattle.broadword.specs.Bits.{count}
 use Rattle.broadword.specs.Places.{select}
 use Rattle.broadword.specs.declared.Found.{Found}
@@ -16,12 +16,11 @@ use Rattle.broadword.specs.declared.Found.the-variants.{At, Nothing}
 use Rattle.broadword.proofs.Count.{count-mono}
 use Rattle.broadword.proofs.Find.{selected}
 use Rattle.bit_words.specs.Vector.{bitOver, wordsFor, invalid}
-use Rattle.bit_vectors.specs.Queries.{placing}
-use Rattle.bit_vectors.specs.Walk.{Begun, begun, refusedBy, starting, Step, step, stepping, walkAt, given, newOf, nextOf, Walking}
+use Rattle.bit_vectors.specs.Queries.{ofPlace}
+use Rattle.bit_vectors.specs.Walk.{begun, refusedBy, ofStarted, Step, ofStepped, walkAt, given, newOf, nextOf, Walking}
 use Rattle.bit_vectors.specs.declared.Place.the-variants as place
 use Rattle.bit_vectors.specs.declared.unary.Unary.{Unary}
 use Rattle.bit_vectors.specs.declared.unary.Stepped.{Stepped}
-use Rattle.bit_vectors.specs.declared.unary.Started.{Started}
 use Rattle.bit_vectors.specs.declared.unary.Started.the-variants as started
 use Rattle.bit_vectors.proofs.Steps.{step-ok}
 
@@ -43,7 +42,7 @@ module _ (ws : List ℕ) (len : ℕ) where
 
   pub step-keeps : (w : Unary) (r : Stepped) (p : ℕ)
       → Walking ws len w
-      → stepping r ≡ nextOf ws len w
+      → ofStepped r ≡ nextOf ws len w
       → r .place ≡ place.At p
       → Walking ws len (r .walk) × (len - r .walk .from < len - w .from)
   step-keeps w r p h e a = go (select (bitOver true ws) len (count (bitOver true ws) (w .from) + 0)) refl
@@ -52,20 +51,20 @@ module _ (ws : List ℕ) (len : ℕ) where
           → select (bitOver true ws) len (count (bitOver true ws) (w .from) + 0) ≡ x
           → Walking ws len (r .walk) × (len - r .walk .from < len - w .from)
       go (At q) s =
-          let t : stepping r ≡ given ws len 1 (At q) = e ∙ step-ok ws len w true 1 0 (At q) (h .ok) s in
+          let t : ofStepped r ≡ given ws len 1 (At q) = e ∙ step-ok ws len w true 1 0 (At q) (h .ok) s in
           let v : walkAt ws len q (q + 1) ≡ r .walk = sym (ap (λ (y : Step). y .walk) t) in
           let y = selected (bitOver true ws) len (count (bitOver true ws) (w .from) + 0) q s in
           let o = onward (bitOver true ws) (w .from) q (y .one) (y .before) in
           let l : q < len = y .within in
           subst (λ (u : Unary). Walking ws len u × (len - u .from < len - w .from)) v (at q (q + 1) (h .ok) (omega arith) (le-refl (q + 1)), omega arith)
       go Nothing s =
-          let t : stepping r ≡ given ws len 1 Nothing = e ∙ step-ok ws len w true 1 0 Nothing (h .ok) s in
-          let v : placing (r .place) ≡ none = ap (λ (y : Step). y .answer) t in
-          let u : placing (r .place) ≡ value p = ap placing a in
+          let t : ofStepped r ≡ given ws len 1 Nothing = e ∙ step-ok ws len w true 1 0 Nothing (h .ok) s in
+          let v : ofPlace (r .place) ≡ none = ap (λ (y : Step). y .answer) t in
+          let u : ofPlace (r .place) ≡ value p = ap ofPlace a in
           let z : _≡_ {A = ℕ} 0 1 = cc in
           absurd (omega arith)
 
-  pub new-keeps : (start : ℕ) (w : Unary) → starting (started.Walk w) ≡ newOf ws len start → Walking ws len w
+  pub new-keeps : (start : ℕ) (w : Unary) → ofStarted (started.Walk w) ≡ newOf ws len start → Walking ws len w
   unfolding newOf
   new-keeps start w e = go (invalid ws len) refl
     where

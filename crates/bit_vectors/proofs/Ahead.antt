@@ -20,7 +20,8 @@ use Rattle.broadword.proofs.Find.{selected, select-at, select-none}
 use Rattle.broadword.proofs.Lowest.{odd-times, bit-one, none-below, short}
 use Rattle.bit_words.specs.Vector.{bitOver, wordsFor}
 use Rattle.bit_words.specs.Inner.{Skipped}
-use Rattle.bit_vectors.specs.Walk.{restOf, Ahead}
+use Rattle.bit_vectors.specs.Inner.{Ahead}
+use Rattle.bit_vectors.specs.Walk.{restOf}
 use Rattle.bit_words.proofs.Search.{rest-at, rest-over}
 use Rattle.bit_words.proofs.Runs.{Fit, getD-past, bitOver-word, over-next}
 use Rattle.bit_words.proofs.Valid.{Valid}

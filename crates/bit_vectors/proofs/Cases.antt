@@ -1,19 +1,18 @@
 -- The cases of each question's definition, one law to a case: the proofs cite them at each `return`. Assumes nothing.
-use mathlib.Core.Path.{_≡_, refl, sym, ap, _∙_}
+use mathlib.Core.Path.{_≡_, ap, _∙_}
 use mathlib.Core.List.{List, _++_}
 use mathlib.Core.Bool.{Bool, true, false}
 use Prim.Native.Nat.{ℕ, _+_, _-_, _*_, _/_, _%_, _^_, _≤_, _<_}
-use native.Mathlib.Omega.{arith}
 use borrow.Author.Tests.{le-ltb, lt-ltb, le-leb, lt-leb}
 use lib.Dec.{leb}
 use lib.ListN.{length, getD, set, take, drop}
-use Rattle.errors.specs.Answer.{Answer, value, none, done, refused, Outcome, leaves, pick}
+use Rattle.errors.specs.Answer.{Answer, value, none, done, refused, leaves, pick}
 use Rattle.broadword.specs.Bits.{count}
 use Rattle.broadword.specs.Fields.{flag, word}
 use Rattle.broadword.specs.Places.{last, select}
 use Rattle.broadword.specs.declared.Found.{Found}
 use Rattle.bit_words.specs.Vector.{bitAt, bitOver, wordsFor, invalid, numberWords, putBit, appended}
-use Rattle.bit_vectors.specs.Queries.{foundAt, asked, accessOf, getBitsOf, getWord64Of, rank1Of, numOnesOf, selectOf, predecessor1Of, setBitOf, pushOf, fromBitOf}
+use Rattle.bit_vectors.specs.Queries.{ofFound, asked, accessOf, getBitsOf, getWord64Of, rank1Of, numOnesOf, selectOf, predecessor1Of, setBitOf, pushOf, fromBitOf}
 
 module _ (ws : List ℕ) (len : ℕ) where
   asked-13 : (a : Answer) → invalid ws len ≡ true → asked ws len a ≡ refused 13
@@ -108,9 +107,9 @@ module _ (ws : List ℕ) (len : ℕ) where
   unfolding selectOf
   select-13 b k e = asked-13 _ e
 
-  pub select-ok : (b : Bool) (k : ℕ) (a : Found) → invalid ws len ≡ false → select (bitOver b ws) len k ≡ a → selectOf ws len b k ≡ foundAt a
+  pub select-ok : (b : Bool) (k : ℕ) (a : Found) → invalid ws len ≡ false → select (bitOver b ws) len k ≡ a → selectOf ws len b k ≡ ofFound a
   unfolding selectOf
-  select-ok b k a e h = asked-ok _ e ∙ ap foundAt h
+  select-ok b k a e h = asked-ok _ e ∙ ap ofFound h
 
   pub predecessor1-13 : (pos : ℕ) → invalid ws len ≡ true → predecessor1Of ws len pos ≡ refused 13
   unfolding predecessor1Of
@@ -118,11 +117,11 @@ module _ (ws : List ℕ) (len : ℕ) where
 
   pub predecessor1-past : (pos : ℕ) → invalid ws len ≡ false → len ≤ pos → predecessor1Of ws len pos ≡ none
   unfolding predecessor1Of
-  predecessor1-past pos e h = asked-ok _ e ∙ ap (λ (t : Bool). pick t (foundAt (last (bitAt ws) (pos + 1))) none) (le-ltb pos len h)
+  predecessor1-past pos e h = asked-ok _ e ∙ ap (λ (t : Bool). pick t (ofFound (last (bitAt ws) (pos + 1))) none) (le-ltb pos len h)
 
-  pub predecessor1-ok : (pos : ℕ) (a : Found) → invalid ws len ≡ false → pos < len → last (bitAt ws) (pos + 1) ≡ a → predecessor1Of ws len pos ≡ foundAt a
+  pub predecessor1-ok : (pos : ℕ) (a : Found) → invalid ws len ≡ false → pos < len → last (bitAt ws) (pos + 1) ≡ a → predecessor1Of ws len pos ≡ ofFound a
   unfolding predecessor1Of
-  predecessor1-ok pos a e h l = asked-ok _ e ∙ ap (λ (t : Bool). pick t (foundAt (last (bitAt ws) (pos + 1))) none) (lt-ltb pos len h) ∙ ap foundAt l
+  predecessor1-ok pos a e h l = asked-ok _ e ∙ ap (λ (t : Bool). pick t (ofFound (last (bitAt ws) (pos + 1))) none) (lt-ltb pos len h) ∙ ap ofFound l
 
 -- ---- calls that alter words
 

@@ -7,7 +7,6 @@ use native.Mathlib.Nat.{le-refl, le-trans, le-of-eq, lt-of-not-le}
 use native.Mathlib.Decide.{decLt}
 use native.Mathlib.Omega.{arith}
 use borrow.Author.Tests.{le-ltb, lt-ltb, le-leb, lt-leb}
-use lib.Dec.{leb}
 use lib.ListN.{getD}
 use Rattle.errors.specs.Answer.{Answer, none, refused, pick}
 use Rattle.broadword.specs.Bits.{count}
@@ -19,7 +18,8 @@ use Rattle.broadword.proofs.Find.{select-at, select-none}
 use Rattle.bit_vectors.proofs.Ahead.{rest-end, rest-from}
 use Rattle.bit_words.proofs.Valid.{valid}
 use Rattle.bit_words.specs.Vector.{bitOver, wordsFor, invalid}
-use Rattle.bit_vectors.specs.Walk.{Begun, begun, refusedBy, Step, step, walkAt, given, newOf, stepOf, stopAt, Walking}
+use Rattle.bit_vectors.specs.Inner.{stopAt}
+use Rattle.bit_vectors.specs.Walk.{begun, refusedBy, step, walkAt, given, newOf, stepOf, Walking}
 use Rattle.bit_vectors.specs.declared.unary.Unary.{Unary}
 
 module _ (ws : List ℕ) (len : ℕ) where

@@ -1,3 +1,4 @@
+pub mod Inner
 pub mod Queries
 pub mod Rows
 pub mod Walk

@@ -1,12 +1,12 @@
 -- What each call on a bit vector answers and leaves, document 01, "Odd spots" and "Refusals". Assumes nothing.
 use mathlib.Core.List.{List, _++_}
-use mathlib.Core.Bool.{Bool, true, false}
+use mathlib.Core.Bool.{Bool}
 use Prim.Native.Nat.{ℕ, _+_, _-_, _*_, _/_, _%_, _^_}
-use lib.Dec.{eqb, leb, ltb}
+use lib.Dec.{leb, ltb}
 use lib.ListN.{length, getD, set, take, drop}
 use Rattle.errors.specs.Refusal.{numberOf}
 use Rattle.errors.specs.Answer.{Answer, value, none, done, refused, Outcome, leaves, pick}
-use Rattle.broadword.specs.Bits.{bit, count}
+use Rattle.broadword.specs.Bits.{count}
 use Rattle.broadword.specs.Fields.{flag, word}
 use Rattle.broadword.specs.Places.{last, select}
 use Rattle.broadword.specs.declared.Found.{Found}
@@ -27,38 +27,38 @@ use Rattle.bit_vectors.specs.declared.Place.the-variants as place-answer
 
 -- ---- the cases of each answer, in document 01's terms
 
-abbrev pub altering : Altered → Answer
-altering altered.Done = done
-altering (altered.Refused e) = refused (numberOf e)
+abbrev pub ofAltered : Altered → Answer
+ofAltered altered.Done = done
+ofAltered (altered.Refused e) = refused (numberOf e)
 
-abbrev pub pushing : Pushed → Answer
-pushing (pushed.Length n) = value n
-pushing (pushed.Refused e) = refused (numberOf e)
+abbrev pub ofPushed : Pushed → Answer
+ofPushed (pushed.Length n) = value n
+ofPushed (pushed.Refused e) = refused (numberOf e)
 
-abbrev pub wording : Word → Answer
-wording (word-answer.Value x) = value x
-wording word-answer.Nothing = none
-wording (word-answer.Refused e) = refused (numberOf e)
+abbrev pub ofWord : Word → Answer
+ofWord (word-answer.Value x) = value x
+ofWord word-answer.Nothing = none
+ofWord (word-answer.Refused e) = refused (numberOf e)
 
-abbrev pub bitting : Bit → Answer
-bitting (bit-answer.Is b) = value (flag b)
-bitting bit-answer.Nothing = none
-bitting (bit-answer.Refused e) = refused (numberOf e)
+abbrev pub ofBit : Bit → Answer
+ofBit (bit-answer.Is b) = value (flag b)
+ofBit bit-answer.Nothing = none
+ofBit (bit-answer.Refused e) = refused (numberOf e)
 
-abbrev pub counting : Count → Answer
-counting (count-answer.Ones n) = value n
-counting count-answer.Nothing = none
-counting (count-answer.Refused e) = refused (numberOf e)
+abbrev pub ofCount : Count → Answer
+ofCount (count-answer.Ones n) = value n
+ofCount count-answer.Nothing = none
+ofCount (count-answer.Refused e) = refused (numberOf e)
 
-abbrev pub placing : Place → Answer
-placing (place-answer.At i) = value i
-placing place-answer.Nothing = none
-placing (place-answer.Refused e) = refused (numberOf e)
+abbrev pub ofPlace : Place → Answer
+ofPlace (place-answer.At i) = value i
+ofPlace place-answer.Nothing = none
+ofPlace (place-answer.Refused e) = refused (numberOf e)
 
 -- a place that may be missing
-abbrev pub foundAt : Found → Answer
-foundAt (found.At i) = value i
-foundAt found.Nothing = none
+abbrev pub ofFound : Found → Answer
+ofFound (found.At i) = value i
+ofFound found.Nothing = none
 
 -- ---- questions
 
@@ -85,10 +85,10 @@ module _ (ws : List ℕ) (len : ℕ) where
 
   -- over the ones (true) or the zeros (false)
   unfoldable pub selectOf : Bool → ℕ → Answer
-  selectOf b k = asked (foundAt (select (bitOver b ws) len k))
+  selectOf b k = asked (ofFound (select (bitOver b ws) len k))
 
   unfoldable pub predecessor1Of : ℕ → Answer
-  predecessor1Of pos = asked (pick (ltb pos len) (foundAt (last (bitAt ws) (pos + 1))) none)
+  predecessor1Of pos = asked (pick (ltb pos len) (ofFound (last (bitAt ws) (pos + 1))) none)
 
   -- ---- calls that alter words
 

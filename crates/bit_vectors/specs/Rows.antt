@@ -1,15 +1,15 @@
 -- Document 01's "Odd spots" of broadword.rs, bit_vector.rs and unary.rs as rows of one table, and the theorem that covers the table.
 use mathlib.Core.Path.{_≡_, refl}
 use mathlib.Core.List.{List, [], _∷_, map}
-use mathlib.Core.Bool.{Bool, true, false}
+use mathlib.Core.Bool.{true, false}
 use Prim.Native.Nat.{ℕ, _-_, _^_}
-use Rattle.errors.specs.Answer.{Answer, value, none, done, refused, Outcome, leaves}
+use Rattle.errors.specs.Answer.{Answer, value, none, refused}
 use Rattle.broadword.specs.Bits.{bit, count}
 use Rattle.broadword.specs.Fields.{word}
 use Rattle.broadword.specs.Places.{last, select}
-use Rattle.bit_words.specs.Vector.{bitAt, bitOver, padding, invalid, numberWords, putBit, appended}
-use Rattle.bit_vectors.specs.Queries.{foundAt, asked, accessOf, getBitsOf, getWord64Of, rank1Of, numOnesOf, selectOf, predecessor1Of, setBitOf, pushOf, fromBitOf}
-use Rattle.bit_vectors.specs.Walk.{restOf, newOf, refusedBy, Begun, begun, walkAt, Step, stepOf, nextOf, skip1Of, skip0Of}
+use Rattle.bit_words.specs.Vector.{bitAt, bitOver, padding, invalid}
+use Rattle.bit_vectors.specs.Queries.{ofFound, asked, getBitsOf, rank1Of, numOnesOf, selectOf, predecessor1Of, setBitOf, pushOf}
+use Rattle.bit_vectors.specs.Walk.{restOf, walkAt, Step, stepOf, nextOf, skip1Of, skip0Of}
 use Rattle.bit_vectors.specs.declared.unary.Unary.{Unary}
 
 -- a question's answer by its definition, and what document 01 says
@@ -34,10 +34,10 @@ after s = s .walk
 unfoldable pub rows : List Row
 rows =
     -- lsb(0) and msb(0) are none; select_in_word is none when the word has k or fewer ones
-    row (foundAt (select (bit 0) 64 0)) none
-    ∷ row (foundAt (last (bit 0) 64)) none
-    ∷ row (foundAt (select (bit 67) 64 2)) (value 6)
-    ∷ row (foundAt (select (bit 67) 64 3)) none
+    row (ofFound (select (bit 0) 64 0)) none
+    ∷ row (ofFound (last (bit 0) 64)) none
+    ∷ row (ofFound (select (bit 67) 64 2)) (value 6)
+    ∷ row (ofFound (select (bit 67) 64 3)) none
     -- get_bits: a width over 64, an end past the length, one that wraps in the Rust, width 0 at the length
     ∷ row (getBitsOf eleven 4 0 65) none
     ∷ row (getBitsOf eleven 4 3 2) none

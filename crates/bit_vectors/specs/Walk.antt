@@ -3,17 +3,17 @@
 use mathlib.Core.Path.{_≡_}
 use mathlib.Core.List.{List}
 use mathlib.Core.Bool.{Bool, true, false}
-use Prim.Native.Nat.{ℕ, _+_, _-_, _*_, _/_, _%_, _^_, _≤_, _<_}
-use lib.Dec.{leb, ltb}
+use Prim.Native.Nat.{ℕ, _+_, _-_, _*_, _/_, _^_, _≤_}
+use lib.Dec.{leb}
 use lib.ListN.{getD, take}
 use Rattle.errors.specs.Refusal.{numberOf}
 use Rattle.errors.specs.Answer.{Answer, value, none, refused, pick}
-use Rattle.broadword.specs.Bits.{bit, count}
+use Rattle.broadword.specs.Bits.{count}
 use Rattle.broadword.specs.Places.{select}
 use Rattle.broadword.specs.declared.Found.{Found}
 use Rattle.broadword.specs.declared.Found.the-variants as found
 use Rattle.bit_words.specs.Vector.{bitOver, wordsFor, invalid}
-use Rattle.bit_vectors.specs.Queries.{placing}
+use Rattle.bit_vectors.specs.Queries.{ofPlace}
 use Rattle.bit_vectors.specs.declared.unary.Unary.{Unary}
 use Rattle.bit_vectors.specs.declared.unary.Stepped.{Stepped}
 use Rattle.bit_vectors.specs.declared.unary.Started.{Started}
@@ -31,9 +31,9 @@ pub data Begun : Type 0 where
   begun : Unary → Begun
   refusedBy : ℕ → Begun
 
-abbrev pub starting : Started → Begun
-starting (started.Walk w) = begun w
-starting (started.Refused e) = refusedBy (numberOf e)
+abbrev pub ofStarted : Started → Begun
+ofStarted (started.Walk w) = begun w
+ofStarted (started.Refused e) = refusedBy (numberOf e)
 
 unfoldable pub newOf : List ℕ → ℕ → ℕ → Begun
 newOf ws len start = pick (invalid ws len) (refusedBy 13) (pick (leb (wordsFor len) (start / 64)) (refusedBy 16) (begun (walkAt ws len start start)))
@@ -46,17 +46,13 @@ pub record Step : Type 0 where
 abbrev pub step : Answer → Unary → Step
 step a w = record { answer = a; walk = w }
 
-abbrev pub stepping : Stepped → Step
-stepping r = step (placing (r .place)) (r .walk)
+abbrev pub ofStepped : Stepped → Step
+ofStepped r = step (ofPlace (r .place)) (r .walk)
 
 -- a place is given, and taken (1) or not (0); a none ends the walk
 abbrev pub given : List ℕ → ℕ → ℕ → Found → Step
 given ws len taken (found.At p) = step (value p) (walkAt ws len p (p + taken))
 given ws len taken found.Nothing = step none (walkAt ws len len len)
-
--- the walk stops on a place below the length, and else ends
-abbrev pub stopAt : List ℕ → ℕ → ℕ → Step
-stopAt ws len place = pick (ltb place len) (given ws len 0 (found.At place)) (given ws len 0 found.Nothing)
 
 module _ (ws : List ℕ) (len : ℕ) (w : Unary) where
   unfoldable pub stepOf : Bool → ℕ → ℕ → Step
@@ -79,10 +75,3 @@ module _ (ws : List ℕ) (len : ℕ) (w : Unary) where
     pub behind : w .position ≤ w .from
     pub near : w .from ≤ w .position + 1
     pub rest : w .buf ≡ restOf ws len (w .position) (w .from)
-
--- what is ahead of a walk at `from`: the lowest one of x, which is left of the word `at`, and nothing where x is 0
-pub record Ahead (ws : List ℕ) (len from at x : ℕ) : Type 0 where
-  pub small : x < 2 ^ 64
-  pub nothing : x ≡ 0 → select (bitOver true ws) len (count (bitOver true ws) from + 0) ≡ found.Nothing
-  pub place : (t : ℕ) → select (bit x) 64 0 ≡ found.At t
-      → (at * 64 + t < len) × (select (bitOver true ws) len (count (bitOver true ws) from + 0) ≡ found.At (at * 64 + t)) × (x / 2 ^ (t + 1) * 2 ^ (t + 1) ≡ restOf ws len (at * 64 + t) (at * 64 + t + 1))

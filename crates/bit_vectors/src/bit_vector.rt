@@ -7,7 +7,7 @@ ghost use Prim.Native.Nat.{_/_, _<_};
 ghost use Rattle.errors.specs.Answer.{leaves};
 ghost use Rattle.broadword.specs.Fields.{flag};
 ghost use Rattle.bit_words.specs.Vector.{invalid};
-ghost use Rattle.bit_vectors.specs.Queries.{altering, pushing, wording, bitting, counting, placing, accessOf, getBitsOf, getWord64Of, rank1Of, numOnesOf, selectOf, predecessor1Of, setBitOf, pushOf, fromBitOf};
+ghost use Rattle.bit_vectors.specs.Queries.{ofAltered, ofPushed, ofWord, ofBit, ofCount, ofPlace, accessOf, getBitsOf, getWord64Of, rank1Of, numOnesOf, selectOf, predecessor1Of, setBitOf, pushOf, fromBitOf};
 use super::Altered;
 use super::Bit;
 use super::Count;
@@ -34,7 +34,7 @@ use errors::Refusal;
 
 // The bit at pos.
 pub fn access(words: &[u64], len: usize, pos: usize) -> Bit
-    ensures { λ r. ⌜ bitting r ≡ accessOf (now (words .entry)) len pos ⌝ }
+    ensures { λ r. ⌜ ofBit r ≡ accessOf (now (words .entry)) len pos ⌝ }
 {
     if is_invalid(words, len) {
         return Bit::Refused(Refusal::InvalidBits);
@@ -49,7 +49,7 @@ pub fn access(words: &[u64], len: usize, pos: usize) -> Bit
 
 // The bits from pos on, as many as width says.
 pub fn get_bits(words: &[u64], len: usize, pos: usize, width: usize) -> Word
-    ensures { λ r. ⌜ wording r ≡ getBitsOf (now (words .entry)) len pos width ⌝ }
+    ensures { λ r. ⌜ ofWord r ≡ getBitsOf (now (words .entry)) len pos width ⌝ }
 {
     if is_invalid(words, len) {
         return Word::Refused(Refusal::InvalidBits);
@@ -72,7 +72,7 @@ pub fn get_bits(words: &[u64], len: usize, pos: usize, width: usize) -> Word
 
 // The 64 bits from pos on; those past the used words are 0.
 pub fn get_word64(words: &[u64], len: usize, pos: usize) -> Word
-    ensures { λ r. ⌜ wording r ≡ getWord64Of (now (words .entry)) len pos ⌝ }
+    ensures { λ r. ⌜ ofWord r ≡ getWord64Of (now (words .entry)) len pos ⌝ }
 {
     if is_invalid(words, len) {
         return Word::Refused(Refusal::InvalidBits);
@@ -86,7 +86,7 @@ pub fn get_word64(words: &[u64], len: usize, pos: usize) -> Word
 
 // The ones below pos.
 pub fn rank1(words: &[u64], len: usize, pos: usize) -> Count
-    ensures { λ r. ⌜ counting r ≡ rank1Of (now (words .entry)) len pos ⌝ }
+    ensures { λ r. ⌜ ofCount r ≡ rank1Of (now (words .entry)) len pos ⌝ }
 {
     if is_invalid(words, len) {
         return Count::Refused(Refusal::InvalidBits);
@@ -99,7 +99,7 @@ pub fn rank1(words: &[u64], len: usize, pos: usize) -> Count
 
 // All the ones.
 pub fn num_ones(words: &[u64], len: usize) -> Count
-    ensures { λ r. ⌜ counting r ≡ numOnesOf (now (words .entry)) len ⌝ }
+    ensures { λ r. ⌜ ofCount r ≡ numOnesOf (now (words .entry)) len ⌝ }
 {
     if is_invalid(words, len) {
         return Count::Refused(Refusal::InvalidBits);
@@ -109,7 +109,7 @@ pub fn num_ones(words: &[u64], len: usize) -> Count
 
 // The place of the one, or the zero, that k of its kind stand before.
 fn select_over(words: &[u64], len: usize, over_one: bool, k: usize) -> Place
-    ensures { λ r. ⌜ placing r ≡ selectOf (now (words .entry)) len «over_one» k ⌝ }
+    ensures { λ r. ⌜ ofPlace r ≡ selectOf (now (words .entry)) len «over_one» k ⌝ }
 {
     if is_invalid(words, len) {
         return Place::Refused(Refusal::InvalidBits);
@@ -130,20 +130,20 @@ fn select_over(words: &[u64], len: usize, over_one: bool, k: usize) -> Place
 }
 
 pub fn select1(words: &[u64], len: usize, k: usize) -> Place
-    ensures { λ r. ⌜ placing r ≡ selectOf (now (words .entry)) len true k ⌝ }
+    ensures { λ r. ⌜ ofPlace r ≡ selectOf (now (words .entry)) len true k ⌝ }
 {
     select_over(words, len, true, k)
 }
 
 pub fn select0(words: &[u64], len: usize, k: usize) -> Place
-    ensures { λ r. ⌜ placing r ≡ selectOf (now (words .entry)) len false k ⌝ }
+    ensures { λ r. ⌜ ofPlace r ≡ selectOf (now (words .entry)) len false k ⌝ }
 {
     select_over(words, len, false, k)
 }
 
 // The last one at or before pos.
 pub fn predecessor1(words: &[u64], len: usize, pos: usize) -> Place
-    ensures { λ r. ⌜ placing r ≡ predecessor1Of (now (words .entry)) len pos ⌝ }
+    ensures { λ r. ⌜ ofPlace r ≡ predecessor1Of (now (words .entry)) len pos ⌝ }
 {
     if is_invalid(words, len) {
         return Place::Refused(Refusal::InvalidBits);
@@ -169,7 +169,7 @@ pub fn predecessor1(words: &[u64], len: usize, pos: usize) -> Place
 
 // The used words are written whole: `bit` at every place below len, and 0 past it.
 pub fn from_bit(bit: bool, len: usize, words: &mut [u64]) -> Altered
-    ensures { λ r. ⌜ leaves (altering r) (now (words .exit)) ≡ fromBitOf bit len (now (words .entry)) ⌝ }
+    ensures { λ r. ⌜ leaves (ofAltered r) (now (words .exit)) ≡ fromBitOf bit len (now (words .entry)) ⌝ }
 {
     let used = words_for(len);
     if words.len() < used {
@@ -188,7 +188,7 @@ pub fn from_bit(bit: bool, len: usize, words: &mut [u64]) -> Altered
 
 // The bit at pos is set to `bit`.
 pub fn set_bit(words: &mut [u64], len: usize, pos: usize, bit: bool) -> Altered
-    ensures { λ r. ⌜ leaves (altering r) (now (words .exit)) ≡ setBitOf (now (words .entry)) len pos bit ⌝ }
+    ensures { λ r. ⌜ leaves (ofAltered r) (now (words .exit)) ≡ setBitOf (now (words .entry)) len pos bit ⌝ }
 {
     if is_invalid(words, len) {
         return Altered::Refused(Refusal::InvalidBits);
@@ -203,7 +203,7 @@ pub fn set_bit(words: &mut [u64], len: usize, pos: usize, bit: bool) -> Altered
 
 // The lowest bits of `bits`, as many as width says, are pushed at the end.
 pub fn push_bits(words: &mut [u64], len: usize, bits: u64, width: usize) -> Pushed
-    ensures { λ r. ⌜ leaves (pushing r) (now (words .exit)) ≡ pushOf (now (words .entry)) len bits width ⌝ }
+    ensures { λ r. ⌜ leaves (ofPushed r) (now (words .exit)) ≡ pushOf (now (words .entry)) len bits width ⌝ }
 {
     if is_invalid(words, len) {
         return Pushed::Refused(Refusal::InvalidBits);
@@ -228,7 +228,7 @@ pub fn push_bits(words: &mut [u64], len: usize, bits: u64, width: usize) -> Push
 
 // One bit is pushed at the end.
 pub fn push_bit(words: &mut [u64], len: usize, bit: bool) -> Pushed
-    ensures { λ r. ⌜ leaves (pushing r) (now (words .exit)) ≡ pushOf (now (words .entry)) len (flag bit) 1 ⌝ }
+    ensures { λ r. ⌜ leaves (ofPushed r) (now (words .exit)) ≡ pushOf (now (words .entry)) len (flag bit) 1 ⌝ }
 {
     push_bits(words, len, bit_word(bit), 1)
 }

@@ -10,7 +10,8 @@ ghost use Rattle.broadword.specs.Bits.{bit};
 ghost use Rattle.broadword.specs.Places.{select};
 ghost use Rattle.bit_words.specs.Vector.{bitOver, invalid};
 ghost use Rattle.bit_words.specs.Inner.{Skipped};
-ghost use Rattle.bit_vectors.specs.Walk.{starting, stepping, newOf, stepOf, nextOf, skip1Of, skip0Of, Walking, Ahead, stopAt};
+ghost use Rattle.bit_vectors.specs.Inner.{Ahead, stopAt};
+ghost use Rattle.bit_vectors.specs.Walk.{ofStarted, ofStepped, newOf, stepOf, nextOf, skip1Of, skip0Of, Walking};
 use super::Place;
 use bit_words::WORD_LEN;
 use bit_words::find_from;
@@ -56,7 +57,7 @@ fn walk_from(words: &[u64], from: usize) -> Unary
 }
 
 pub fn new(words: &[u64], len: usize, start: usize) -> Started
-    ensures { λ r. ⌜ starting r ≡ newOf (now (words .entry)) len start ⌝ }
+    ensures { λ r. ⌜ ofStarted r ≡ newOf (now (words .entry)) len start ⌝ }
 {
     if is_invalid(words, len) {
         return Started::Refused(Refusal::InvalidBits);
@@ -137,7 +138,7 @@ fn left_of(words: &[u64], len: usize, w: Unary) -> Left
 // `next`, of a walk over these bits.
 pub fn next_within(words: &[u64], len: usize, w: Unary) -> Stepped
     requires { ⌜ Walking (now words) len w ⌝ }
-    ensures { λ r. ⌜ stepping r ≡ nextOf (now (words .entry)) len w ⌝ }
+    ensures { λ r. ⌜ ofStepped r ≡ nextOf (now (words .entry)) len w ⌝ }
 {
     let left = left_of(words, len, w);
     let at = left.at;
@@ -159,7 +160,7 @@ pub fn next_within(words: &[u64], len: usize, w: Unary) -> Stepped
 
 // The next one, which is taken.
 pub fn next(words: &[u64], len: usize, w: Unary) -> Stepped
-    ensures { λ r. ⌜ stepping r ≡ nextOf (now (words .entry)) len w ⌝ }
+    ensures { λ r. ⌜ ofStepped r ≡ nextOf (now (words .entry)) len w ⌝ }
 {
     if is_invalid(words, len) {
         return Stepped {
@@ -177,7 +178,7 @@ pub fn next(words: &[u64], len: usize, w: Unary) -> Stepped
 // The walk stops on a place, if it lies below the length.
 fn stop(words: &[u64], len: usize, place: usize) -> Stepped
     requires { ⌜ invalid (now words) len ≡ false ⌝ }
-    ensures { λ r. ⌜ stepping r ≡ stopAt (now (words .entry)) len place ⌝ }
+    ensures { λ r. ⌜ ofStepped r ≡ stopAt (now (words .entry)) len place ⌝ }
 {
     if len <= place {
         return ended(len);
@@ -190,7 +191,7 @@ fn stop(words: &[u64], len: usize, place: usize) -> Stepped
 
 // To the one, or the zero, that k of its kind stand before, from the first place not yet taken on.
 fn skip_over(words: &[u64], len: usize, w: Unary, over_one: bool, k: usize) -> Stepped
-    ensures { λ r. ⌜ stepping r ≡ stepOf (now (words .entry)) len w «over_one» 0 k ⌝ }
+    ensures { λ r. ⌜ ofStepped r ≡ stepOf (now (words .entry)) len w «over_one» 0 k ⌝ }
 {
     if is_invalid(words, len) {
         return Stepped {
@@ -211,13 +212,13 @@ fn skip_over(words: &[u64], len: usize, w: Unary, over_one: bool, k: usize) -> S
 }
 
 pub fn skip1(words: &[u64], len: usize, w: Unary, k: usize) -> Stepped
-    ensures { λ r. ⌜ stepping r ≡ skip1Of (now (words .entry)) len w k ⌝ }
+    ensures { λ r. ⌜ ofStepped r ≡ skip1Of (now (words .entry)) len w k ⌝ }
 {
     skip_over(words, len, w, true, k)
 }
 
 pub fn skip0(words: &[u64], len: usize, w: Unary, k: usize) -> Stepped
-    ensures { λ r. ⌜ stepping r ≡ skip0Of (now (words .entry)) len w k ⌝ }
+    ensures { λ r. ⌜ ofStepped r ≡ skip0Of (now (words .entry)) len w k ⌝ }
 {
     skip_over(words, len, w, false, k)
 }

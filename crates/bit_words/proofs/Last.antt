@@ -1,7 +1,7 @@
 -- The last one at or before a place, by words: the low bits of its word, and else the last word below that is not 0. Assumes nothing.
-use mathlib.Core.Path.{_≡_, refl, sym, ap, ap₂, _∙_, subst}
+use mathlib.Core.Path.{_≡_, refl, sym, ap, _∙_}
 use mathlib.Core.List.{List}
-use Prim.Native.Nat.{ℕ, zero, suc, _+_, _-_, _*_, _/_, _%_, _^_, _≤_, _<_}
+use Prim.Native.Nat.{ℕ, suc, _+_, _-_, _*_, _/_, _%_, _^_, _≤_, _<_}
 use native.Mathlib.Nat.{lt-of-not-le, mod-eq-of-lt, mod-lt, lt-of-lt-of-le}
 use native.Mathlib.Decide.{decLe, decLt}
 use native.Mathlib.Omega.{arith}
@@ -13,7 +13,7 @@ use Rattle.broadword.specs.Places.{last}
 use Rattle.broadword.specs.declared.Found.the-variants.{At, Nothing}
 use Rattle.broadword.proofs.Count.{bit-le, bit-mod, bit-above}
 use Rattle.broadword.proofs.Fields.{word-digits, word-same}
-use Rattle.broadword.proofs.Find.{LastAt, last-is, last-nothing, last-at, last-none}
+use Rattle.broadword.proofs.Find.{last-is, last-nothing, last-at, last-none}
 use Rattle.bit_words.specs.Vector.{bitAt}
 use Rattle.bit_words.specs.Inner.{Ending}
 use Rattle.bit_words.proofs.Runs.{bit-digit-1, bitAt-word, bitAt-le}

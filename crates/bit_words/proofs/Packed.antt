@@ -2,7 +2,7 @@
 use mathlib.Core.Path.{_≡_, refl, sym, ap, ap₂, _∙_, subst, subst⁻¹}
 use mathlib.Core.List.{List, [], _∷_, _++_, append-assoc, append-nil}
 use Prim.Native.Nat.{ℕ, zero, suc, _+_, _-_, _*_, _/_, _%_, _^_, _≤_, _<_}
-use native.Mathlib.Nat.{div-eq-of-lt, div-le-self, lt-of-le-of-lt, le-of-eq, lt-of-not-le, zero-add, add-zero, suc-add, zero-mul, suc-mul, mul-one, one-mul, mul-comm, mul-assoc, div-one, div-add-mod', mod-lt, mod-eq-of-lt, div-lt-iff-lt-mul, le-of-suc-le-suc, not-suc-le-zero, lt-of-lt-of-le, le-refl, zero-div, zero-mod, mod-one}
+use native.Mathlib.Nat.{div-eq-of-lt, div-le-self, lt-of-le-of-lt, le-of-eq, lt-of-not-le, zero-add, add-zero, suc-add, zero-mul, suc-mul, one-mul, div-add-mod', mod-lt, mod-eq-of-lt, div-lt-iff-lt-mul, le-of-suc-le-suc, not-suc-le-zero, lt-of-lt-of-le, zero-mod, mod-one}
 use native.Mathlib.Numerals.{add-one}
 use native.Mathlib.Decide.{decLe}
 use native.Mathlib.Omega.{arith}
@@ -11,7 +11,7 @@ use lib.Bits.{bitAnd, bitOr, and-block, and-high, and-mask, or-block, or-shifted
 use lib.Dec.{lit<}
 use lib.ListN.{length, getD, set, take, drop, replicate, length-replicate, take-append-drop}
 use lib.Pow.{pow-pos, pow-add, pow-mono, split, ones-split, ones-lt, low}
-use lib.Seq.{set-split, set-at, drop-cons, take-all}
+use lib.Seq.{set-split, set-at, drop-cons}
 use Rattle.errors.specs.Answer.{value, leaves}
 use Rattle.broadword.specs.Bits.{bit}
 use Rattle.broadword.specs.Fields.{word}

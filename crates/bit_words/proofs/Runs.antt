@@ -1,5 +1,5 @@
 -- Laws of the bits of a slice of words: of a place in a word, of counts and of selects, for the ones and for the zeros. Assumes nothing.
-use mathlib.Core.Path.{_≡_, refl, sym, ap, ap₂, _∙_, subst, subst⁻¹}
+use mathlib.Core.Path.{_≡_, refl, sym, ap, ap₂, _∙_}
 use mathlib.Core.List.{List, [], _∷_}
 use mathlib.Core.Bool.{Bool, true, false}
 use Prim.Native.Nat.{ℕ, zero, suc, _+_, _-_, _*_, _/_, _%_, _^_, _≤_, _<_}
@@ -8,17 +8,16 @@ use native.Mathlib.Decide.{decLt}
 use native.Mathlib.Omega.{arith}
 use lib.ListN.{length, getD, take}
 use lib.Seq.{getD-take}
-use lib.Dec.{eqb, lit<}
+use lib.Dec.{eqb}
 use lib.Pow.{pow-pos, pow-add}
 use Rattle.broadword.specs.Bits.{bit, count, ones}
 use Rattle.broadword.specs.Fields.{digit, flag, word}
 use Rattle.broadword.specs.Places.{select}
-use Rattle.broadword.specs.declared.Found.{Found}
 use Rattle.broadword.specs.declared.Found.the-variants.{At, Nothing}
 use Rattle.broadword.proofs.Count.{bit-le, bit-mod, bit-shift, count-zero, count-add, count-same, count-le, count-mono}
 use Rattle.broadword.proofs.Fields.{digit-is, digit-lt, digit-word, word-digits, word-sub}
 use Rattle.broadword.proofs.Table.{each-eq}
-use Rattle.broadword.proofs.Find.{Selected, selected, select-at, select-none, select-some}
+use Rattle.broadword.proofs.Find.{selected, select-at, select-none, select-some}
 use Rattle.bit_words.specs.Vector.{bitAt, bitOver, wordOver}
 
 -- ---- a word's complement

@@ -1,13 +1,13 @@
 -- A window of 64 bits over two neighbouring words, and the lowest bits of one. Assumes nothing.
-use mathlib.Core.Path.{_≡_, refl, sym, ap, ap₂, _∙_, subst, subst⁻¹}
+use mathlib.Core.Path.{_≡_, sym, ap, _∙_, subst, subst⁻¹}
 use mathlib.Core.List.{List}
-use Prim.Native.Nat.{ℕ, zero, suc, _+_, _-_, _*_, _/_, _%_, _^_, _≤_, _<_}
-use native.Mathlib.Nat.{mul-one, mul-comm, mul-assoc, add-comm, div-one, mod-eq-of-lt, div-add-mod', mod-lt, div-lt-iff-lt-mul, lt-of-lt-of-le, lt-of-le-of-lt, div-le-self, sub-add-cancel, zero-add, zero-mul, lt-of-not-le}
+use Prim.Native.Nat.{ℕ, _+_, _-_, _*_, _/_, _%_, _^_, _≤_, _<_}
+use native.Mathlib.Nat.{mul-one, mul-comm, div-one, mod-eq-of-lt, div-add-mod', mod-lt, div-lt-iff-lt-mul, lt-of-lt-of-le, lt-of-le-of-lt, div-le-self, lt-of-not-le}
 use native.Mathlib.Decide.{decLt}
 use native.Mathlib.Omega.{arith}
 use lib.ListN.{getD, take}
 use lib.Arith.{digits-lt, digits-div, digits-mod}
-use lib.Pow.{pow-pos, pow-add, split}
+use lib.Pow.{pow-pos, pow-add}
 use lib.Bits.{bitOr, or-shifted-r}
 use Rattle.broadword.specs.Bits.{bit}
 use Rattle.broadword.specs.Fields.{digit, word}

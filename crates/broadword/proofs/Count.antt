@@ -1,10 +1,10 @@
 -- Laws of `bit` and `count`. Assumes nothing.
-use mathlib.Core.Path.{_≡_, refl, sym, ap, ap₂, _∙_, subst}
+use mathlib.Core.Path.{_≡_, refl, sym, ap, ap₂, _∙_}
 use Prim.Native.Nat.{ℕ, zero, suc, _+_, _*_, _/_, _%_, _^_, _≤_, _<_, zero-le}
-use native.Mathlib.Nat.{le-refl, le-trans, le-of-suc-le-suc, lt-suc-self, le-step, lt-trans, add-suc, suc-add, add-zero, add-comm, add-assoc, div-div-eq-div-mul, pow-succ', div-eq-of-lt, zero-div, div-one, le-dest, not-suc-le-zero, zero-mul, suc-mul}
+use native.Mathlib.Nat.{le-refl, lt-suc-self, le-step, add-suc, add-zero, add-comm, add-assoc, div-div-eq-div-mul, pow-succ', div-eq-of-lt, div-one, le-dest, not-suc-le-zero, zero-mul, suc-mul}
 use native.Mathlib.Decide.{le-ind}
 use native.Mathlib.Omega.{arith}
-use lib.Pow.{pow-mono, shr-shr, field, mod-mod-pow}
+use lib.Pow.{shr-shr, field, mod-mod-pow}
 use Rattle.broadword.specs.Fields.{digit}
 use Rattle.broadword.specs.Bits.{bit, count, ones}
 use Rattle.broadword.proofs.Fields.{digit-is}

@@ -1,11 +1,11 @@
 -- A word by its fields: an operation on words is the operation on each field, where no field overflows. Assumes nothing.
 use mathlib.Core.Path.{_≡_, refl, sym, ap, ap₂, _∙_, subst}
 use Prim.Native.Nat.{ℕ, zero, suc, _+_, _-_, _*_, _/_, _%_, _^_, _≤_, _<_, suc-le-suc}
-use native.Mathlib.Nat.{not-suc-le-zero, le-of-suc-le-suc, zero-lt-suc, add-comm, add-assoc, add-zero, zero-add, add-mul, mul-add, mul-assoc, mul-comm, mul-left-comm, suc-mul, mul-zero, mod-lt, mod-one, zero-div, zero-mod, div-add-mod', mul-div-cancel, mul-add-div-right, mul-add-mod-self-right, sub-add-cancel, mod-eq-of-lt, zero-mul, div-one, le-refl, add-le-add, mul-le-mul-right}
+use native.Mathlib.Nat.{not-suc-le-zero, le-of-suc-le-suc, zero-lt-suc, add-comm, mul-assoc, suc-mul, mod-lt, mod-one, zero-div, mul-div-cancel, mul-add-div-right, mul-add-mod-self-right, sub-add-cancel, mod-eq-of-lt, zero-mul, div-one, le-refl, add-le-add, mul-le-mul-right}
 use native.Mathlib.Omega.{arith}
 use lib.Arith.{digits-lt, digits-div, digits-mod}
 use lib.Dec.{lit<}
-use lib.Pow.{pow-pos, pow-add, mod-pow-add, mod-mod-pow, shr-shr, shr-mod, split}
+use lib.Pow.{pow-pos, pow-add, mod-pow-add, shr-shr, shr-mod, split}
 use lib.Bits.{bitAnd, bitOr, bitXor, and-block, and-mask, or-block, xor-block}
 use Rattle.broadword.specs.Fields.{digit, word}
 

@@ -1,13 +1,13 @@
 -- The lowest one of a number: n is odd times 2 ^ t. `x & -x` is 2 ^ t. Assumes nothing.
-use mathlib.Core.Path.{_≡_, refl, sym, ap, ap₂, _∙_, subst}
+use mathlib.Core.Path.{_≡_, sym, ap, ap₂, _∙_}
 use Prim.Native.Nat.{ℕ, zero, suc, _+_, _-_, _*_, _/_, _%_, _^_, _≤_, _<_, min}
-use native.Mathlib.Nat.{not-suc-le-zero, le-dest, mul-one, mul-assoc, mul-comm, mul-left-comm, pow-suc, add-zero, add-assoc, zero-add, mod-lt, le-mul-of-pos-right, mul-sub, lt-of-mul-lt-mul-right, mul-div-cancel, sub-add-cancel, lt-of-le-of-lt, le-trans, le-of-eq, lt-of-not-le, not-le-of-lt, one-mul, mul-le-mul-right, add-mul}
+use native.Mathlib.Nat.{not-suc-le-zero, le-dest, mul-one, mul-assoc, pow-suc, add-zero, lt-of-mul-lt-mul-right, mul-div-cancel, lt-of-le-of-lt, le-trans, le-of-eq, lt-of-not-le, not-le-of-lt, one-mul, mul-le-mul-right, add-mul}
 use native.Mathlib.Decide.{ℕ-discrete}
 use native.Mathlib.Omega.{arith}
 use lib.Arith.{bin-ind}
 use lib.Dec.{lit<}
 use lib.Pow.{pow-pos, pow-add, pow-mono}
-use lib.Bits.{bitAnd, and-step, and-block, and-zero-r}
+use lib.Bits.{bitAnd, and-step, and-block}
 use Rattle.broadword.specs.Bits.{bit, count}
 use Rattle.broadword.proofs.Count.{count-zero}
 

@@ -1,5 +1,5 @@
 -- In a run whose counts rise, how many counts are at most k says where the count passes k. Assumes nothing.
-use mathlib.Core.Path.{_≡_, ap, subst, subst⁻¹}
+use mathlib.Core.Path.{_≡_, subst, subst⁻¹}
 use Prim.Native.Nat.{ℕ, zero, suc, _+_, _≤_, _<_, zero-le, suc-le-suc}
 use native.Mathlib.Nat.{le-refl, le-step, le-of-lt, lt-of-lt-of-le, lt-of-not-le, lt-irrefl, not-le-of-lt, not-suc-le-zero}
 use native.Mathlib.Decide.{decLe, decLt}

@@ -9,13 +9,13 @@ use native.Mathlib.Omega.{arith}
 use borrow.Author.Tests.{le-leb, lt-leb, lt-ltb, le-ltb}
 use lib.ListN.{length, length-append, take, drop}
 use lib.Seq.{take-at}
-use Rattle.errors.specs.Answer.{Answer, value, refused, Outcome, leaves}
+use Rattle.errors.specs.Answer.{value, refused, Outcome, leaves}
 use Rattle.broadword.specs.Places.{select}
-use Rattle.bit_vectors.specs.Queries.{foundAt}
+use Rattle.bit_vectors.specs.Queries.{ofFound}
 use Rattle.bit_words.specs.Vector.{bitOver, invalid}
 use Rattle.darray.specs.Positions.{positions}
 use Rattle.darray.specs.Index.{blocks, lanes, overflow, indexWords}
-use Rattle.darray.specs.Queries.{Measure, sizes, unmeasured, measureOf, buildOf, selectBuiltOf}
+use Rattle.darray.specs.Queries.{sizes, unmeasured, measureOf, buildOf, selectBuiltOf}
 use Rattle.darray.proofs.Cases as cases
 
 module _ (ws : List ℕ) (len : ℕ) (b : Bool) (out : List ℕ) where
@@ -50,7 +50,7 @@ module _ (ws : List ℕ) (len : ℕ) (b : Bool) (out : List ℕ) where
   unfolding selectBuiltOf
   select-3 k h l g = rw (h, lt-leb (2 ^ 63) len l, lt-ltb (length out) (length I) g)
 
-  pub select-ok : (k : ℕ) → invalid ws len ≡ false → len < 2 ^ 63 → length I ≤ length out → selectBuiltOf ws len b out k ≡ leaves (foundAt (select (bitOver b ws) len k)) (I ++ drop (length I) out)
+  pub select-ok : (k : ℕ) → invalid ws len ≡ false → len < 2 ^ 63 → length I ≤ length out → selectBuiltOf ws len b out k ≡ leaves (ofFound (select (bitOver b ws) len k)) (I ++ drop (length I) out)
   unfolding selectBuiltOf
   select-ok k h l g = rw (h, lt-leb (2 ^ 63) len l, le-ltb (length out) (length I) g)
 

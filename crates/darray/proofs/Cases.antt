@@ -10,7 +10,7 @@ use Rattle.broadword.specs.Fields.{flag}
 use Rattle.bit_words.specs.Vector.{invalid}
 use Rattle.darray.specs.Positions.{positions}
 use Rattle.darray.specs.Index.{blocks, indexWords}
-use Rattle.darray.specs.Queries.{unmeasured, measuring, measureOf, buildOf, validateOf, same}
+use Rattle.darray.specs.Queries.{unmeasured, ofMeasured, measureOf, buildOf, validateOf, same}
 use Rattle.darray.specs.Scan.{Sized}
 use Rattle.darray.specs.declared.inner.Sizes.{Sizes}
 use Rattle.darray.specs.declared.inner.Measured.the-variants as measured
@@ -25,7 +25,7 @@ module _ (ws : List ℕ) (len : ℕ) (b : Bool) where
   unfolding measureOf
   measure-2 h l = rw (h, le-leb (2 ^ 63) len l)
 
-  pub measure-ok : invalid ws len ≡ false → len < 2 ^ 63 → (s : Sizes) → Sized (positions b ws len) s → measureOf ws len b ≡ measuring (measured.Sizes s)
+  pub measure-ok : invalid ws len ≡ false → len < 2 ^ 63 → (s : Sizes) → Sized (positions b ws len) s → measureOf ws len b ≡ ofMeasured (measured.Sizes s)
   unfolding measureOf
   measure-ok h l s z =
       rw (h, lt-leb (2 ^ 63) len l)

@@ -1,15 +1,14 @@
 -- A word without its lowest one: `w & (w - 1)`. Assumes nothing.
 use mathlib.Core.Path.{_≡_, sym, ap, ap₂, _∙_, subst}
-use Prim.Native.Nat.{ℕ, zero, suc, _+_, _-_, _*_, _/_, _%_, _^_, _≤_, _<_}
-use native.Mathlib.Nat.{not-suc-le-zero, le-of-suc-le-suc, le-dest, add-zero, mul-assoc, pow-suc, mul-div-cancel, pos-of-ne-zero, lt-of-not-le}
+use Prim.Native.Nat.{ℕ, suc, _+_, _-_, _*_, _/_, _^_, _≤_, _<_}
+use native.Mathlib.Nat.{le-dest, add-zero, mul-assoc, pow-suc, mul-div-cancel, pos-of-ne-zero, lt-of-not-le}
 use native.Mathlib.Decide.{decLt}
 use native.Mathlib.Omega.{arith}
 use lib.Dec.{lit<}
 use lib.Pow.{pow-pos, pow-add, high}
 use lib.Bits.{bitAnd, and-block, and-self, and-zero-l, and-zero-r}
-use Rattle.broadword.specs.Bits.{bit, count, ones}
+use Rattle.broadword.specs.Bits.{bit, count}
 use Rattle.broadword.specs.Places.{select}
-use Rattle.broadword.specs.declared.Found.the-variants.{At}
 use Rattle.broadword.proofs.Count.{bit-le, bit-shift, count-add, count-same, count-zero}
 use Rattle.broadword.proofs.Find.{select-at, select-none, select-some}
 use Rattle.broadword.proofs.Lowest.{odd-times, bit-one, bit-below, short}

@@ -13,12 +13,11 @@ use lib.ListN.{length, getD, length-append, List·getD-append}
 use lib.Seq.{getD-append-add}
 use Rattle.errors.specs.Answer.{pick}
 use Rattle.broadword.specs.Bits.{count}
-use Rattle.broadword.specs.Fields.{word}
 use Rattle.broadword.proofs.Count.{count-mono}
 use Rattle.broadword.proofs.Fields.{digit-is, digit-word, word-lt}
 use Rattle.bit_words.specs.Vector.{bitOver}
 use Rattle.bit_words.proofs.Runs.{bitOver-le}
-use Rattle.darray.specs.Positions.{places, positions}
+use Rattle.darray.specs.Positions.{positions}
 use Rattle.darray.specs.Index.{table, pos, blocks, size, wide, spill, before, entry, lanes, lane, laneWord, laneWords, overflow, indexWords}
 use Rattle.darray.proofs.Positions as positions
 

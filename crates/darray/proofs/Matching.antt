@@ -11,7 +11,6 @@ use native.Mathlib.Omega.{arith}
 use borrow.Author.Tests.{eq-eqb, ne-eqb}
 use lib.ListN.{length, getD}
 use lib.Seq.{ext-getD}
-use Rattle.darray.specs.Positions.{positions}
 use Rattle.darray.specs.Index.{blocks, size, spill, before, entry, laneWord, laneWords, overflow, indexWords}
 use Rattle.darray.specs.Pending.{Decides, Matches}
 use Rattle.darray.specs.Queries.{same}

@@ -1,12 +1,12 @@
 -- A word read as a signed number, and a negative one taken to the place that it points at. Assumes nothing.
 use borrow.Author.Tests.{le-ltb, lt-ltb, ltb-true}
-use mathlib.Core.Path.{_≡_, refl, sym, ap, ap₂, _∙_, subst, subst⁻¹}
+use mathlib.Core.Path.{_≡_, refl, sym, ap, _∙_, subst, subst⁻¹}
 use mathlib.Core.Bool.{Bool, true, false, cond}
 use Prim.Native.Nat.{ℕ, zero, suc, _+_, _-_, _^_, _≤_, _<_}
 use native.Mathlib.Nat.{zero-add, not-suc-le-zero, lt-of-not-le}
 use native.Mathlib.Decide.{decLt}
 use native.Mathlib.Omega.{arith}
-use lib.Dec.{T, ltb}
+use lib.Dec.{T}
 use lib.IntN.{ℤ, pos, negsuc, natAbs, subℕ, _-ℤ_}
 use lib.Signed.{nonNeg, ltZ}
 use mir.Syntax.{w64}
@@ -14,7 +14,6 @@ use mir.Val.{Fits, SFits, toZ, ofZ}
 use mir.ValLaws.{toZ-pos, toZ-ofZ}
 use Rattle.errors.specs.Answer.{pick}
 use Rattle.darray.specs.Select.{signedOf, entryOf}
-use Rattle.darray.specs.declared.select.Entry.{Entry}
 use Rattle.darray.specs.declared.select.Entry.the-variants.{First, Overflow}
 
 below-one : (k : ℕ) → negsuc 0 -ℤ pos k ≡ negsuc k

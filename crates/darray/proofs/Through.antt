@@ -1,8 +1,8 @@
 -- What the words of an index say of the position with the number k: its block's entry, and its overflow place or its lane. Assumes nothing.
-use mathlib.Core.Path.{_≡_, refl, sym, ap, ap₂, _∙_, subst, subst⁻¹}
+use mathlib.Core.Path.{_≡_, refl, sym, ap, ap₂, _∙_}
 use mathlib.Core.List.{List}
 use mathlib.Core.Bool.{Bool, true, false}
-use Prim.Native.Nat.{ℕ, suc, _+_, _-_, _*_, _/_, _%_, _^_, _≤_, _<_, min}
+use Prim.Native.Nat.{ℕ, suc, _+_, _-_, _*_, _/_, _%_, _^_, _≤_, _<_}
 use native.Mathlib.Nat.{le-trans, le-of-eq, lt-of-lt-of-le, lt-of-le-of-lt}
 use native.Mathlib.Omega.{arith}
 use lib.Bits.{bitAnd}
@@ -16,10 +16,9 @@ use Rattle.bit_words.specs.Vector.{bitOver, wordsFor}
 use Rattle.bit_words.specs.Inner.{Findable}
 use Rattle.bit_words.proofs.Runs.{bitOver-le, narrow-in}
 use Rattle.bit_words.proofs.Valid.{valid}
-use Rattle.darray.specs.Index.{pos, blocks, size, wide, spill, before, entry, lanes, lane, laneWord, laneWords, indexWords}
-use Rattle.darray.specs.Positions.{places, positions}
+use Rattle.darray.specs.Index.{pos, blocks, size, wide, spill, before, entry, lanes, lane, laneWords}
+use Rattle.darray.specs.Positions.{positions}
 use Rattle.darray.specs.Select.{Indexed, entryOf}
-use Rattle.darray.specs.declared.select.Entry.{Entry}
 use Rattle.darray.specs.declared.select.Entry.the-variants.{First, Overflow}
 use Rattle.darray.proofs.Index as laws
 use Rattle.darray.proofs.Positions as found

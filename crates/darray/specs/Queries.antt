@@ -9,7 +9,7 @@ use Rattle.errors.specs.Refusal.{numberOf}
 use Rattle.errors.specs.Answer.{Answer, value, refused, Outcome, leaves, pick}
 use Rattle.broadword.specs.Fields.{flag}
 use Rattle.broadword.specs.Places.{select}
-use Rattle.bit_vectors.specs.Queries.{foundAt}
+use Rattle.bit_vectors.specs.Queries.{ofFound}
 use Rattle.bit_words.specs.Vector.{bitOver, invalid}
 use Rattle.darray.specs.Positions.{positions}
 use Rattle.darray.specs.Index.{blocks, lanes, overflow, indexWords}
@@ -27,17 +27,17 @@ pub data Measure : Type 0 where
   sizes : ℕ → ℕ → ℕ → ℕ → Measure
   unmeasured : ℕ → Measure
 
-abbrev pub measuring : Measured → Measure
-measuring (measured.Sizes s) = sizes (s .positions) (s .entries) (s .lanes) (s .overflow)
-measuring (measured.Refused e) = unmeasured (numberOf e)
+abbrev pub ofMeasured : Measured → Measure
+ofMeasured (measured.Sizes s) = sizes (s .positions) (s .entries) (s .lanes) (s .overflow)
+ofMeasured (measured.Refused e) = unmeasured (numberOf e)
 
-abbrev pub building : Built → Answer
-building (built.Words n) = value n
-building (built.Refused e) = refused (numberOf e)
+abbrev pub ofBuilt : Built → Answer
+ofBuilt (built.Words n) = value n
+ofBuilt (built.Refused e) = refused (numberOf e)
 
-abbrev pub validating : Validated → Answer
-validating (validated.Is b) = value (flag b)
-validating (validated.Refused e) = refused (numberOf e)
+abbrev pub ofValidated : Validated → Answer
+ofValidated (validated.Is b) = value (flag b)
+ofValidated (validated.Refused e) = refused (numberOf e)
 
 -- ---- the calls
 
@@ -76,5 +76,5 @@ module _ (ws : List ℕ) (len : ℕ) (b : Bool) where
       pick (invalid ws len) (leaves (refused 13) out)
       (pick (leb (2 ^ 63) len) (leaves (refused 2) out)
       (pick (ltb (length out) (length (indexWords (positions b ws len)))) (leaves (refused 3) out)
-      (leaves (foundAt (select (bitOver b ws) len k))
+      (leaves (ofFound (select (bitOver b ws) len k))
       (indexWords (positions b ws len) ++ drop (length (indexWords (positions b ws len))) out))))

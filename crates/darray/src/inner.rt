@@ -13,7 +13,7 @@ ghost use Rattle.bit_words.specs.Vector.{wordsFor};
 ghost use Rattle.darray.specs.Positions.{positions};
 ghost use Rattle.darray.specs.Index.{indexWords};
 ghost use Rattle.darray.specs.Pending.{Decides};
-ghost use Rattle.darray.specs.Queries.{measuring, building, validating, measureOf, buildOf, validateOf};
+ghost use Rattle.darray.specs.Queries.{ofMeasured, ofBuilt, ofValidated, measureOf, buildOf, validateOf};
 ghost use Rattle.darray.specs.Scan.{Sized, Writable};
 use crate::pending::block_matches;
 use crate::pending::empty;
@@ -71,7 +71,7 @@ pub enum Validated {
 
 // The sizes of the index over the ones or the zeros of a bit vector.
 pub fn measure(words: &[u64], len: usize, over_one: bool) -> Measured
-    ensures { λ r. ⌜ measuring r ≡ measureOf (now (words .entry)) len «over_one» ⌝ }
+    ensures { λ r. ⌜ ofMeasured r ≡ measureOf (now (words .entry)) len «over_one» ⌝ }
 {
     if is_invalid(words, len) {
         return Measured::Refused(Refusal::InvalidBits);
@@ -84,7 +84,7 @@ pub fn measure(words: &[u64], len: usize, over_one: bool) -> Measured
 
 // Writes the index over the ones or the zeros of a bit vector to the front of `out`, and leaves its later words.
 pub fn build(words: &[u64], len: usize, over_one: bool, out: &mut [u64]) -> Built
-    ensures { λ r. ⌜ leaves (building r) (now (out .exit)) ≡ buildOf (now (words .entry)) len «over_one» (now (out .entry)) ⌝ }
+    ensures { λ r. ⌜ leaves (ofBuilt r) (now (out .exit)) ≡ buildOf (now (words .entry)) len «over_one» (now (out .entry)) ⌝ }
 {
     if is_invalid(words, len) {
         return Built::Refused(Refusal::InvalidBits);
@@ -103,7 +103,7 @@ pub fn build(words: &[u64], len: usize, over_one: bool, out: &mut [u64]) -> Buil
 
 // Whether an index is that over the ones or the zeros of a bit vector.
 pub fn validate(words: &[u64], len: usize, over_one: bool, index: &[u64]) -> Validated
-    ensures { λ r. ⌜ validating r ≡ validateOf (now (words .entry)) len «over_one» (now (index .entry)) ⌝ }
+    ensures { λ r. ⌜ ofValidated r ≡ validateOf (now (words .entry)) len «over_one» (now (index .entry)) ⌝ }
 {
     if is_invalid(words, len) {
         return Validated::Refused(Refusal::InvalidBits);

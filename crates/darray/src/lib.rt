@@ -6,7 +6,7 @@ ghost use mathlib.Core.Bool.{true, false};
 ghost use Rattle.errors.specs.Answer.{leaves};
 ghost use Rattle.broadword.specs.Places.{select as selectBit};
 ghost use Rattle.bit_words.specs.Vector.{bitOver};
-ghost use Rattle.bit_vectors.specs.Queries.{bitting, placing, foundAt, accessOf};
+ghost use Rattle.bit_vectors.specs.Queries.{ofBit, ofPlace, ofFound, accessOf};
 ghost use Rattle.darray.specs.Queries.{selectBuiltOf};
 ghost use Rattle.darray.specs.Select.{Indexed};
 
@@ -25,7 +25,7 @@ use inner::Measured;
 
 // The bit at pos.
 pub fn access(words: &[u64], len: usize, pos: usize) -> Bit
-    ensures { λ r. ⌜ bitting r ≡ accessOf (now (words .entry)) len pos ⌝ }
+    ensures { λ r. ⌜ ofBit r ≡ accessOf (now (words .entry)) len pos ⌝ }
 {
     bit_vector::access(words, len, pos)
 }
@@ -61,7 +61,7 @@ pub fn select0(
 }
 
 fn place_of(found: Found) -> Place
-    ensures { λ r. ⌜ placing r ≡ foundAt found ⌝ }
+    ensures { λ r. ⌜ ofPlace r ≡ ofFound found ⌝ }
 {
     match found {
         Found::At(i) => Place::At(i),
@@ -71,7 +71,7 @@ fn place_of(found: Found) -> Place
 
 // Builds the index into the lent words and selects through it.
 pub fn select_built(words: &[u64], len: usize, over_one: bool, out: &mut [u64], k: usize) -> Place
-    ensures { λ r. ⌜ leaves (placing r) (now (out .exit)) ≡ selectBuiltOf (now (words .entry)) len «over_one» (now (out .entry)) k ⌝ }
+    ensures { λ r. ⌜ leaves (ofPlace r) (now (out .exit)) ≡ selectBuiltOf (now (words .entry)) len «over_one» (now (out .entry)) k ⌝ }
 {
     match inner::build(words, len, over_one, &mut *out) {
         Built::Refused(r) => Place::Refused(r),

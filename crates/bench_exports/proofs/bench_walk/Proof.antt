@@ -1,7 +1,7 @@
 -- `bench_exports::bench_walk` is safe and ends: `new` begins a walk. Assumes nothing.
 use borrow.Author.Needs.{needs}
-use mathlib.Core.Path.{_≡_, sym, ap, _∙_}
-use Rattle.bit_vectors.specs.Walk.{starting}
+use mathlib.Core.Path.{sym, ap, _∙_}
+use Rattle.bit_vectors.specs.Walk.{ofStarted}
 use Rattle.bench_exports.proofs.Keeps.{new-keeps}
 use Rattle.bench_exports.proofs.bench_walk.Statement.{statement}
 use Rattle.bench_exports.proofs.bench_walk.Tie as tie
@@ -19,7 +19,7 @@ returns : tie.Need-returns
 returns c = search needs
 
 walk-requires : tie.Need-walk-requires
-walk-requires c κs = new-keeps (c .before .before .before .before .before .args .words .now) (c .before .before .before .before .before .args .len) 0 (c .before .w .given .0 .0) (ap starting (sym (c .before .w .given .1)) ∙ c .before .before .before .new .ensures)
+walk-requires c κs = new-keeps (c .before .before .before .before .before .args .words .now) (c .before .before .before .before .before .args .len) 0 (c .before .w .given .0 .0) (ap ofStarted (sym (c .before .w .given .1)) ∙ c .before .before .before .new .ensures)
 
 returns-2 : tie.Need-returns-2
 returns-2 c = search needs

@@ -1,7 +1,6 @@
 -- `bench_exports::walk` is safe and ends. The invariant: it is a walk over these bits. The measure: what is left of the length from its first
 -- place not yet taken on. Assumes nothing.
 use borrow.Author.Needs.{needs}
-use mathlib.Core.Path.{_≡_, sym, _∙_}
 use Prim.Native.Nat.{_-_}
 use Rattle.bit_vectors.specs.Walk.{Walking}
 use Rattle.bench_exports.proofs.Keeps.{step-keeps}

@@ -1,12 +1,12 @@
 -- `bit_words::fill` meets its contract. The invariant: the first i words are x, and the others as they were.
 -- Assumes nothing.
-use mathlib.Core.Path.{_≡_, refl, _∙_, ap}
+use mathlib.Core.Path.{_≡_, _∙_, ap}
 use mathlib.Core.List.{List, _++_}
-use Prim.Native.Nat.{ℕ, _≤_, _<_, _-_}
+use Prim.Native.Nat.{ℕ, _≤_, _-_}
 use native.Mathlib.Omega.{arith}
 use borrow.Author.Needs.{needs}
-use borrow.Author.Fill.{fill-none, fill-more}
-use lib.ListN.{length, length-append, length-drop, length-replicate, replicate, drop, set}
+use borrow.Author.Fill.{fill-more}
+use lib.ListN.{length, replicate, drop, set}
 use Rattle.bit_words.proofs.fill.Statement.{statement}
 use Rattle.bit_words.proofs.fill.Tie as tie
 

@@ -1,13 +1,11 @@
 -- `bit_words::find_from` meets its contract.
 -- Assumes nothing.
 use borrow.Author.Needs.{needs}
-use mathlib.Core.Path.{_≡_, refl, sym, ap, ap₂, _∙_, subst, subst⁻¹}
-use Prim.Native.Nat.{ℕ, _+_, _-_, _*_, _/_, _%_, _^_, _≤_, _<_}
+use mathlib.Core.Path.{sym, _∙_, subst}
+use Prim.Native.Nat.{ℕ, _-_, _*_, _/_, _%_, _^_, _<_}
 use native.Mathlib.Omega.{arith}
 use Rattle.broadword.specs.Bits.{bit}
-use Rattle.broadword.specs.Places.{select}
 use Rattle.broadword.proofs.Find.{selected}
-use Rattle.broadword.specs.declared.Found.the-variants.{At, Nothing}
 use lib.Arith.{lt-of-le-ne}
 use Rattle.bit_words.proofs.Search.{first-is, find-first, find-none, find-word}
 use Rattle.bit_words.proofs.find_from.Statement.{statement}

@@ -1,10 +1,9 @@
 -- `bit_words::place_in` meets its contract.
 -- Assumes nothing.
 use borrow.Author.Needs.{needs}
-use mathlib.Core.Path.{_≡_, refl, sym, ap, ap₂, _∙_, subst, subst⁻¹}
-use Prim.Native.Nat.{ℕ, _+_, _-_, _*_, _/_, _%_, _^_, _≤_, _<_}
+use mathlib.Core.Path.{sym, ap}
+use Prim.Native.Nat.{_-_}
 use native.Mathlib.Omega.{arith}
-use Rattle.broadword.specs.declared.Found.the-variants.{At, Nothing}
 use Rattle.bit_words.specs.Inner.{placeIn}
 use Rattle.bit_words.proofs.place_in.Statement.{statement}
 use Rattle.bit_words.proofs.place_in.Tie as tie

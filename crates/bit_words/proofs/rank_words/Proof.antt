@@ -1,12 +1,10 @@
 -- `bit_words::rank_words` meets its contract. The loop's invariant: r is the count below the word i.
 -- Assumes nothing.
 use borrow.Author.Needs.{needs}
-use mathlib.Core.Path.{_≡_, refl, sym, ap, ap₂, _∙_}
-use Prim.Native.Nat.{ℕ, suc, _+_, _-_, _*_, _/_, _%_, _^_, _≤_, _<_}
-use native.Mathlib.Nat.{le-refl, add-zero, sub-add-cancel}
+use mathlib.Core.Path.{_≡_, refl, ap, _∙_}
+use Prim.Native.Nat.{_+_, _-_, _*_, _≤_}
 use native.Mathlib.Omega.{arith}
-use lib.ListN.{length, getD}
-use Rattle.broadword.specs.Bits.{bit, count, ones}
+use Rattle.broadword.specs.Bits.{count}
 use Rattle.bit_words.specs.Vector.{bitAt}
 use Rattle.bit_words.proofs.Runs.{rank-whole, rank-part, rank-le}
 use Rattle.bit_words.proofs.rank_words.Statement.{statement}

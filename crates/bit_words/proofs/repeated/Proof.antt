@@ -1,9 +1,8 @@
 -- `bit_words::repeated` meets its contract.
 -- Assumes nothing.
-use borrow.Author.Needs.{needs}
-use mathlib.Core.Path.{_≡_, sym, ap, ap₂, _∙_, subst}
+use mathlib.Core.Path.{sym, ap}
 use mathlib.Core.Bool.{Bool}
-use Prim.Native.Nat.{ℕ, _+_, _-_, _*_, _/_, _%_, _^_, _≤_, _<_}
+use Prim.Native.Nat.{_-_, _*_, _^_}
 use Rattle.broadword.specs.Fields.{flag}
 use Rattle.bit_words.proofs.repeated.Statement.{statement}
 use Rattle.bit_words.proofs.repeated.Tie as tie

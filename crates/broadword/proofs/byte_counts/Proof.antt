@@ -2,16 +2,15 @@
 -- and antt computes the three steps at each of the 256 bytes.
 -- Assumes nothing.
 use borrow.Author.Needs.{needs}
-use mathlib.Core.Path.{_≡_, refl, sym, ap, ap₂, _∙_, subst⁻¹}
+use mathlib.Core.Path.{_≡_, refl, sym, ap, ap₂, _∙_}
 use Prim.Native.Nat.{ℕ, suc, _+_, _-_, _*_, _/_, _%_, _^_, _≤_, _<_}
-use native.Mathlib.Nat.{lt-of-le-of-lt, le-of-eq, div-eq-of-lt}
+use native.Mathlib.Nat.{div-eq-of-lt}
 use native.Mathlib.Omega.{arith}
 use lib.Bits.{bitAnd, and-shr, and-mask, and-le-l, and-le-r}
 use lib.Dec.{lit<}
-use mir.Facts.{fits-bits}
 use Rattle.broadword.specs.Bits.{bit, count, ones}
 use Rattle.broadword.specs.Fields.{digit, word}
-use Rattle.broadword.proofs.Fields.{bytes, digit-lt, digit-is, word-same, word-lt, word-add, word-sub, word-and, word-shr-exact, word-shr}
+use Rattle.broadword.proofs.Fields.{bytes, digit-lt, digit-is, word-same, word-add, word-sub, word-and, word-shr-exact, word-shr}
 use Rattle.broadword.proofs.Table.{each-eq, each-le}
 use Rattle.broadword.proofs.byte_counts.Statement.{statement}
 use Rattle.broadword.proofs.byte_counts.Tie as tie

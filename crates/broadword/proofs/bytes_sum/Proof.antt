@@ -5,7 +5,7 @@ use mathlib.Core.Path.{_≡_, ap, _∙_}
 use Prim.Native.Nat.{ℕ, suc, _*_, _/_, _%_, _^_, _<_}
 use native.Mathlib.Nat.{lt-of-le-of-lt}
 use Rattle.broadword.specs.Bits.{count}
-use Rattle.broadword.specs.Fields.{digit, word}
+use Rattle.broadword.specs.Fields.{digit}
 use Rattle.broadword.proofs.Count.{count-mono}
 use Rattle.broadword.proofs.Fields.{bytes, top-byte}
 use Rattle.broadword.proofs.Spread.{spread}

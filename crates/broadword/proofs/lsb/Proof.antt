@@ -8,9 +8,9 @@ use lib.Arith.{digits-mod}
 use native.Mathlib.Omega.{arith}
 use lib.Bits.{bitAnd}
 use lib.Pow.{pow-pos}
-use Rattle.broadword.specs.Bits.{bit, count}
+use Rattle.broadword.specs.Bits.{bit}
 use Rattle.broadword.specs.Places.{select}
-use Rattle.broadword.specs.declared.Found.the-variants.{At, Nothing}
+use Rattle.broadword.specs.declared.Found.the-variants.{At}
 use Rattle.broadword.proofs.Count.{count-zero, bit-above}
 use Rattle.broadword.proofs.Find.{select-at, select-none}
 use Rattle.broadword.proofs.Lowest.{odd-times, short, lowest-one, bit-one, none-below}

@@ -1,8 +1,8 @@
 -- `broadword::msb` meets its contract: the smears set every bit below the highest one (`Smear.antt`), and the xor clears all but that.
 -- Assumes nothing.
 use mathlib.Core.Path.{_≡_, sym, ap, ap₂, _∙_, subst}
-use Prim.Native.Nat.{ℕ, zero, suc, _+_, _-_, _*_, _/_, _%_, _^_, _≤_, _<_}
-use native.Mathlib.Nat.{pos-of-ne-zero, pow-suc, add-zero, one-mul, zero-mul, zero-add, div-eq-of-lt-le, lt-of-le-of-lt, lt-of-lt-of-le, lt-of-not-le, not-le-of-lt}
+use Prim.Native.Nat.{ℕ, suc, _+_, _-_, _*_, _/_, _^_, _≤_, _<_}
+use native.Mathlib.Nat.{pos-of-ne-zero, pow-suc, add-zero, one-mul, div-eq-of-lt-le, lt-of-le-of-lt, lt-of-lt-of-le, lt-of-not-le, not-le-of-lt}
 use native.Mathlib.Numerals.{sub-one}
 use native.Mathlib.Omega.{arith}
 use lib.Pow.{pow-pos, pow-mono, ones-lt}
@@ -10,7 +10,7 @@ use lib.Bits.{bitXor, xor-block, xor-self}
 use lib.Count.{leading-top}
 use Rattle.broadword.specs.Bits.{bit}
 use Rattle.broadword.specs.Places.{last}
-use Rattle.broadword.specs.declared.Found.the-variants.{At, Nothing}
+use Rattle.broadword.specs.declared.Found.the-variants.{At}
 use Rattle.broadword.proofs.Count.{bit-above}
 use Rattle.broadword.proofs.Find.{last-at, last-none}
 use Rattle.broadword.proofs.Smear.{smear6, smeared}

@@ -1,6 +1,5 @@
 -- `broadword::select_in_byte_table` meets its contract: the table's rule is one test of its 2,048 entries, which antt computes.
 -- Assumes nothing.
-use borrow.Author.Needs.{needs}
 use mathlib.Core.Path.{_≡_, ap₂, _∙_}
 use mathlib.Core.List.{List, [], _∷_}
 use mathlib.Core.Bool.{Bool}

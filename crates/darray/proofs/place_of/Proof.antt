@@ -2,7 +2,7 @@
 -- Assumes nothing.
 use borrow.Author.Needs.{needs}
 use mathlib.Core.Path.{sym, ap}
-use Rattle.bit_vectors.specs.Queries.{foundAt}
+use Rattle.bit_vectors.specs.Queries.{ofFound}
 use Rattle.darray.proofs.place_of.Statement.{statement}
 use Rattle.darray.proofs.place_of.Tie as tie
 
@@ -13,7 +13,7 @@ enum-told : tie.Need-enum-told
 enum-told c = search needs
 
 returns : tie.Need-returns
-returns c = sym (ap foundAt (c .before .found .given .1))
+returns c = sym (ap ofFound (c .before .found .given .1))
 
 returns-2 : tie.Need-returns-2
 returns-2 c = search needs

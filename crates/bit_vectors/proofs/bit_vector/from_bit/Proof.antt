@@ -1,13 +1,13 @@
 -- `bit_vectors::bit_vector::from_bit` meets its contract.
 -- Assumes nothing.
 use borrow.Author.Needs.{needs}
-use mathlib.Core.Path.{_≡_, sym, ap, ap₂, _∙_, subst}
-use Prim.Native.Nat.{ℕ, _+_, _-_, _*_, _/_, _%_, _^_, _≤_, _<_}
+use mathlib.Core.Path.{sym, ap, ap₂, _∙_}
+use Prim.Native.Nat.{ℕ, _+_, _-_, _/_, _%_, _^_, _≤_}
 use native.Mathlib.Omega.{arith}
 use mathlib.Core.Bool.{Bool, true, false}
 use mathlib.Core.List.{List, _++_}
 use lib.Dec.{lit≤}
-use lib.ListN.{length, length-replicate, length-append, length-drop, replicate, drop, set}
+use lib.ListN.{replicate, drop, set}
 use Rattle.errors.specs.Answer.{done, leaves}
 use Rattle.broadword.specs.Fields.{flag}
 use Rattle.bit_vectors.proofs.Cases as cases

@@ -1,8 +1,8 @@
 -- `bit_vectors::bit_vector::push_bit` meets its contract.
 -- Assumes nothing.
 use borrow.Author.Needs.{needs}
-use mathlib.Core.Path.{_≡_, sym, ap, ap₂, _∙_, subst}
-use Prim.Native.Nat.{ℕ, _+_, _-_, _*_, _/_, _%_, _^_, _≤_, _<_}
+use mathlib.Core.Path.{ap, _∙_}
+use Prim.Native.Nat.{ℕ, _-_}
 use Rattle.bit_vectors.specs.Queries.{pushOf}
 use Rattle.bit_vectors.proofs.bit_vector.push_bit.Statement.{statement}
 use Rattle.bit_vectors.proofs.bit_vector.push_bit.Tie as tie

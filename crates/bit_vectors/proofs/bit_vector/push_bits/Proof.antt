@@ -1,14 +1,14 @@
 -- `bit_vectors::bit_vector::push_bits` meets its contract.
 -- Assumes nothing.
 use borrow.Author.Needs.{needs}
-use mathlib.Core.Path.{_≡_, sym, ap, ap₂, _∙_, subst}
-use Prim.Native.Nat.{ℕ, _+_, _-_, _*_, _/_, _%_, _^_, _≤_, _<_}
-use native.Mathlib.Nat.{mod-lt, mod-one, add-zero}
+use mathlib.Core.Path.{sym, ap, _∙_, subst}
+use Prim.Native.Nat.{ℕ, _+_, _-_, _^_, _<_}
+use native.Mathlib.Nat.{mod-lt}
 use native.Mathlib.Omega.{arith}
 use mathlib.Core.List.{List}
 use lib.Pow.{pow-pos}
-use Rattle.errors.specs.Answer.{Answer, value, leaves}
-use Rattle.bit_words.specs.Vector.{appended, wordsFor}
+use Rattle.errors.specs.Answer.{value, leaves}
+use Rattle.bit_words.specs.Vector.{appended}
 use Rattle.bit_vectors.proofs.Cases as cases
 use Rattle.bit_words.proofs.Packed.{push-nothing}
 use Rattle.bit_words.proofs.Valid.{valid}

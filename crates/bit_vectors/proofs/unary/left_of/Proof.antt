@@ -1,11 +1,10 @@
 -- `bit_vectors::unary::left_of` meets its contract.
 -- Assumes nothing.
 use borrow.Author.Needs.{needs}
-use mathlib.Core.Path.{_≡_, refl, sym, ap, ap₂, _∙_, subst, subst⁻¹}
-use Prim.Native.Nat.{ℕ, _+_, _-_, _*_, _/_, _%_, _^_, _≤_, _<_}
+use mathlib.Core.Path.{subst}
+use Prim.Native.Nat.{ℕ, _+_, _-_, _/_}
 use native.Mathlib.Omega.{arith}
 use mathlib.Core.Bool.{true}
-use lib.Arith.{lt-of-le-ne}
 use Rattle.bit_words.specs.Inner.{Skipped}
 use Rattle.bit_words.specs.Vector.{bitOver}
 use Rattle.bit_vectors.proofs.Ahead.{left-buf, left-end, left-none, left-word}

@@ -1,10 +1,10 @@
 -- `bit_vectors::unary::new` meets its contract.
 -- Assumes nothing.
 use borrow.Author.Needs.{needs}
-use mathlib.Core.Path.{_≡_, refl, sym, ap, ap₂, _∙_, subst}
-use Prim.Native.Nat.{ℕ, _+_, _-_, _*_, _/_, _%_, _^_, _≤_, _<_}
+use mathlib.Core.Path.{sym, ap, _∙_}
+use Prim.Native.Nat.{_-_}
 use native.Mathlib.Omega.{arith}
-use Rattle.bit_vectors.specs.Walk.{begun, step, Step}
+use Rattle.bit_vectors.specs.Walk.{begun, Step}
 use Rattle.errors.specs.Answer.{none}
 use Rattle.bit_vectors.proofs.Steps as steps
 use Rattle.bit_words.proofs.Valid.{valid}

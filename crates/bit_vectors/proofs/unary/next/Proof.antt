@@ -1,12 +1,11 @@
 -- `bit_vectors::unary::next` meets its contract.
 -- Assumes nothing.
 use borrow.Author.Needs.{needs}
-use mathlib.Core.Path.{_≡_, refl, sym, ap, ap₂, _∙_, subst, subst⁻¹}
-use Prim.Native.Nat.{ℕ, _+_, _-_, _*_, _/_, _%_, _^_, _≤_, _<_}
+use mathlib.Core.Path.{sym, ap, _∙_, subst, subst⁻¹}
+use Prim.Native.Nat.{_-_}
 use native.Mathlib.Omega.{arith}
 use mathlib.Core.Bool.{true}
-use native.Mathlib.Nat.{le-refl}
-use Rattle.bit_vectors.specs.Walk.{stepping, Walking}
+use Rattle.bit_vectors.specs.Walk.{ofStepped, Walking}
 use Rattle.bit_vectors.specs.declared.unary.Unary.{Unary}
 use Rattle.bit_vectors.proofs.Steps as steps
 use Rattle.bit_words.proofs.Valid.{valid}
@@ -23,7 +22,7 @@ ended-requires : tie.Need-ended-requires
 ended-requires c κs = search needs
 
 returns-2 : tie.Need-returns-2
-returns-2 c = ap stepping (c .ended .ensures) ∙ steps.ended-is (c .before .before .before .before .before .args .words .now) (c .before .before .before .before .before .args .len) 1 (sym (c .before .before .before .is-invalid .ensures) ∙ c .before .before .if1 .left) ∙ sym (steps.end-is (c .before .before .before .before .before .args .words .now) (c .before .before .before .before .before .args .len) (c .before .before .before .before .before .args .w) true 1 0 (c .before .before .before .before .before .args .w .from) (sym (c .before .before .before .is-invalid .ensures) ∙ c .before .before .if1 .left) (c .before .if2 .taken) (omega arith))
+returns-2 c = ap ofStepped (c .ended .ensures) ∙ steps.ended-is (c .before .before .before .before .before .args .words .now) (c .before .before .before .before .before .args .len) 1 (sym (c .before .before .before .is-invalid .ensures) ∙ c .before .before .if1 .left) ∙ sym (steps.end-is (c .before .before .before .before .before .args .words .now) (c .before .before .before .before .before .args .len) (c .before .before .before .before .before .args .w) true 1 0 (c .before .before .before .before .before .args .w .from) (sym (c .before .before .before .is-invalid .ensures) ∙ c .before .before .if1 .left) (c .before .if2 .taken) (omega arith))
 
 walk-from-requires : tie.Need-walk-from-requires
 walk-from-requires c κs = let r = valid (c .before .before .before .before .args .words .now) (c .before .before .before .before .args .len) (sym (c .before .before .is-invalid .ensures) ∙ c .before .if1 .left) .room in omega arith

@@ -1,13 +1,13 @@
 -- `bit_vectors::unary::next_within` meets its contract.
 -- Assumes nothing.
 use borrow.Author.Needs.{needs}
-use mathlib.Core.Path.{_≡_, sym, ap, _∙_}
+use mathlib.Core.Path.{sym, ap, _∙_}
 use mathlib.Core.Bool.{true}
-use Prim.Native.Nat.{ℕ, _+_, _-_, _*_, _≤_, _<_}
+use Prim.Native.Nat.{ℕ, _+_, _-_, _*_}
 use native.Mathlib.Omega.{arith}
 use Rattle.errors.specs.Answer.{value}
 use Rattle.broadword.specs.declared.Found.the-variants.{At, Nothing}
-use Rattle.bit_vectors.specs.Walk.{step, stepping}
+use Rattle.bit_vectors.specs.Walk.{step, ofStepped}
 use Rattle.bit_vectors.proofs.Ahead.{lowest-cleared}
 use Rattle.bit_vectors.proofs.Steps as steps
 use Rattle.bit_vectors.proofs.unary.next_within.Statement.{statement}
@@ -20,7 +20,7 @@ ended-requires : tie.Need-ended-requires
 ended-requires c κs = search needs
 
 returns : tie.Need-returns
-returns c = ap stepping (c .ended .ensures) ∙ steps.ended-is (c .before .before .before .before .args .words .now) (c .before .before .before .before .args .len) 1 (c .before .before .before .before .pre .ok) ∙ sym (steps.step-ok (c .before .before .before .before .args .words .now) (c .before .before .before .before .args .len) (c .before .before .before .before .args .w) true 1 0 Nothing (c .before .before .before .before .pre .ok) (c .before .before .left-of .ensures .nothing (c .before .if1 .taken)))
+returns c = ap ofStepped (c .ended .ensures) ∙ steps.ended-is (c .before .before .before .before .args .words .now) (c .before .before .before .before .args .len) 1 (c .before .before .before .before .pre .ok) ∙ sym (steps.step-ok (c .before .before .before .before .args .words .now) (c .before .before .before .before .args .len) (c .before .before .before .before .args .w) true 1 0 Nothing (c .before .before .before .before .pre .ok) (c .before .before .left-of .ensures .nothing (c .before .if1 .taken)))
 
 bsf64-requires : tie.Need-bsf64-requires
 bsf64-requires c κs = search needs

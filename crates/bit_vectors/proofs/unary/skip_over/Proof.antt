@@ -1,13 +1,13 @@
 -- `bit_vectors::unary::skip_over` meets its contract.
 -- Assumes nothing.
 use borrow.Author.Needs.{needs}
-use mathlib.Core.Path.{_≡_, refl, sym, ap, ap₂, _∙_, subst, subst⁻¹}
-use Prim.Native.Nat.{ℕ, _+_, _-_, _*_, _/_, _%_, _^_, _≤_, _<_}
+use mathlib.Core.Path.{sym, ap, _∙_}
+use Prim.Native.Nat.{_+_, _-_, _*_}
 use native.Mathlib.Omega.{arith}
 use Rattle.broadword.specs.Bits.{count}
 use Rattle.broadword.proofs.Find.{selected}
 use Rattle.bit_words.specs.Vector.{bitOver}
-use Rattle.bit_vectors.specs.Walk.{stepping}
+use Rattle.bit_vectors.specs.Walk.{ofStepped}
 use Rattle.bit_words.proofs.Runs.{bitOver-le, select-few}
 use Rattle.bit_vectors.proofs.Steps as steps
 use Rattle.bit_words.proofs.Valid.{valid}
@@ -24,7 +24,7 @@ ended-requires : tie.Need-ended-requires
 ended-requires c κs = search needs
 
 returns-2 : tie.Need-returns-2
-returns-2 c = ap stepping (c .ended .ensures) ∙ steps.ended-is (c .before .before .before .before .before .args .words .now) (c .before .before .before .before .before .args .len) 0 (sym (c .before .before .before .is-invalid .ensures) ∙ c .before .before .if1 .left) ∙ sym (steps.end-is (c .before .before .before .before .before .args .words .now) (c .before .before .before .before .before .args .len) (c .before .before .before .before .before .args .w) (c .before .before .before .before .before .args .over-one) 0 (c .before .before .before .before .before .args .k) (c .before .before .before .before .before .args .w .from) (sym (c .before .before .before .is-invalid .ensures) ∙ c .before .before .if1 .left) (c .before .if2 .taken) (omega arith))
+returns-2 c = ap ofStepped (c .ended .ensures) ∙ steps.ended-is (c .before .before .before .before .before .args .words .now) (c .before .before .before .before .before .args .len) 0 (sym (c .before .before .before .is-invalid .ensures) ∙ c .before .before .if1 .left) ∙ sym (steps.end-is (c .before .before .before .before .before .args .words .now) (c .before .before .before .before .before .args .len) (c .before .before .before .before .before .args .w) (c .before .before .before .before .before .args .over-one) 0 (c .before .before .before .before .before .args .k) (c .before .before .before .before .before .args .w .from) (sym (c .before .before .before .is-invalid .ensures) ∙ c .before .before .if1 .left) (c .before .if2 .taken) (omega arith))
 
 words-for-requires : tie.Need-words-for-requires
 words-for-requires c κs = search needs
@@ -45,7 +45,7 @@ ended-requires-2 : tie.Need-ended-requires-2
 ended-requires-2 c κs = search needs
 
 returns-3 : tie.Need-returns-3
-returns-3 c = let e = c .before .before .before .before .before .before .words-for .ensures in ap stepping (c .ended2 .ensures) ∙ steps.ended-is (c .before .before .before .before .before .before .before .before .before .before .before .args .words .now) (c .before .before .before .before .before .before .before .before .before .before .before .args .len) 0 (sym (c .before .before .before .before .before .before .before .before .before .is-invalid .ensures) ∙ c .before .before .before .before .before .before .before .before .if1 .left) ∙ sym (steps.end-is (c .before .before .before .before .before .before .before .before .before .before .before .args .words .now) (c .before .before .before .before .before .before .before .before .before .before .before .args .len) (c .before .before .before .before .before .before .before .before .before .before .before .args .w) (c .before .before .before .before .before .before .before .before .before .before .before .args .over-one) 0 (c .before .before .before .before .before .before .before .before .before .before .before .args .k) (c .before .before .before .before .before .before .words-for .result * 64) (sym (c .before .before .before .before .before .before .before .before .before .is-invalid .ensures) ∙ c .before .before .before .before .before .before .before .before .if1 .left) (omega arith) (select-few (bitOver (c .before .before .before .before .before .before .before .before .before .before .before .args .over-one) (c .before .before .before .before .before .before .before .before .before .before .before .args .words .now)) (bitOver-le (c .before .before .before .before .before .before .before .before .before .before .before .args .over-one) (c .before .before .before .before .before .before .before .before .before .before .before .args .words .now)) (c .before .before .before .before .before .before .words-for .result * 64) 0 (count (bitOver (c .before .before .before .before .before .before .before .before .before .before .before .args .over-one) (c .before .before .before .before .before .before .before .before .before .before .before .args .words .now)) (c .before .before .before .before .before .before .before .before .before .before .before .args .w .from) + c .before .before .before .before .before .before .before .before .before .before .before .args .k) (sym (c .before .before .before .find-from .ensures) ∙ c .before .enum-told .given .1)))
+returns-3 c = let e = c .before .before .before .before .before .before .words-for .ensures in ap ofStepped (c .ended2 .ensures) ∙ steps.ended-is (c .before .before .before .before .before .before .before .before .before .before .before .args .words .now) (c .before .before .before .before .before .before .before .before .before .before .before .args .len) 0 (sym (c .before .before .before .before .before .before .before .before .before .is-invalid .ensures) ∙ c .before .before .before .before .before .before .before .before .if1 .left) ∙ sym (steps.end-is (c .before .before .before .before .before .before .before .before .before .before .before .args .words .now) (c .before .before .before .before .before .before .before .before .before .before .before .args .len) (c .before .before .before .before .before .before .before .before .before .before .before .args .w) (c .before .before .before .before .before .before .before .before .before .before .before .args .over-one) 0 (c .before .before .before .before .before .before .before .before .before .before .before .args .k) (c .before .before .before .before .before .before .words-for .result * 64) (sym (c .before .before .before .before .before .before .before .before .before .is-invalid .ensures) ∙ c .before .before .before .before .before .before .before .before .if1 .left) (omega arith) (select-few (bitOver (c .before .before .before .before .before .before .before .before .before .before .before .args .over-one) (c .before .before .before .before .before .before .before .before .before .before .before .args .words .now)) (bitOver-le (c .before .before .before .before .before .before .before .before .before .before .before .args .over-one) (c .before .before .before .before .before .before .before .before .before .before .before .args .words .now)) (c .before .before .before .before .before .before .words-for .result * 64) 0 (count (bitOver (c .before .before .before .before .before .before .before .before .before .before .before .args .over-one) (c .before .before .before .before .before .before .before .before .before .before .before .args .words .now)) (c .before .before .before .before .before .before .before .before .before .before .before .args .w .from) + c .before .before .before .before .before .before .before .before .before .before .before .args .k) (sym (c .before .before .before .find-from .ensures) ∙ c .before .enum-told .given .1)))
 
 stop-requires : tie.Need-stop-requires
 stop-requires c κs = (sym (c .before .before .before .before .before .before .before .before .before .is-invalid .ensures) ∙ c .before .before .before .before .before .before .before .before .if1 .left)

@@ -1,13 +1,12 @@
 -- `bit_vectors::unary::stop` meets its contract.
 -- Assumes nothing.
 use borrow.Author.Needs.{needs}
-use mathlib.Core.Path.{_≡_, refl, sym, ap, ap₂, _∙_, subst}
-use Prim.Native.Nat.{ℕ, _+_, _-_, _*_, _/_, _%_, _^_, _≤_, _<_}
+use mathlib.Core.Path.{sym, ap, _∙_}
+use Prim.Native.Nat.{ℕ, _-_}
 use native.Mathlib.Omega.{arith}
 use native.Mathlib.Nat.{add-zero}
 use Rattle.errors.specs.Answer.{value}
-use Rattle.bit_vectors.specs.Walk.{step, stepping, walkAt}
-use Rattle.bit_vectors.specs.declared.unary.Unary.{Unary}
+use Rattle.bit_vectors.specs.Walk.{step, ofStepped, walkAt}
 use Rattle.bit_vectors.proofs.Steps as steps
 use Rattle.bit_words.proofs.Valid.{valid}
 use Rattle.bit_vectors.proofs.unary.stop.Statement.{statement}
@@ -17,7 +16,7 @@ ended-requires : tie.Need-ended-requires
 ended-requires c κs = search needs
 
 returns : tie.Need-returns
-returns c = ap stepping (c .ended .ensures) ∙ steps.ended-is (c .before .before .before .args .words .now) (c .before .before .before .args .len) 0 (c .before .before .before .pre) ∙ sym (steps.stop-past (c .before .before .before .args .words .now) (c .before .before .before .args .len) (c .before .before .before .args .place) (c .before .if1 .taken))
+returns c = ap ofStepped (c .ended .ensures) ∙ steps.ended-is (c .before .before .before .args .words .now) (c .before .before .before .args .len) 0 (c .before .before .before .pre) ∙ sym (steps.stop-past (c .before .before .before .args .words .now) (c .before .before .before .args .len) (c .before .before .before .args .place) (c .before .if1 .taken))
 
 walk-from-requires : tie.Need-walk-from-requires
 walk-from-requires c κs = let v = valid (c .before .before .args .words .now) (c .before .before .args .len) (c .before .before .pre) in let r = v .room in omega arith

@@ -1,8 +1,8 @@
 -- `bit_vectors::unary::walk_from` meets its contract.
 -- Assumes nothing.
 use borrow.Author.Needs.{needs}
-use mathlib.Core.Path.{_≡_, refl, sym, ap, ap₂, _∙_, subst}
-use Prim.Native.Nat.{ℕ, _+_, _-_, _*_, _/_, _%_, _^_, _≤_, _<_}
+use mathlib.Core.Path.{ap}
+use Prim.Native.Nat.{ℕ, _-_, _/_, _%_}
 use Rattle.bit_vectors.specs.declared.unary.Unary.{Unary}
 use Rattle.bit_words.proofs.Search.{shifted-rest}
 use lib.ListN.{getD}

@@ -1,6 +1,6 @@
 -- What `select_in_word` computes, on plain numbers: which byte the one stands in, and its place in that byte. Assumes nothing.
-use mathlib.Core.Path.{_≡_, refl, sym, ap, ap₂, _∙_, subst, subst⁻¹}
-use Prim.Native.Nat.{ℕ, zero, suc, _+_, _-_, _*_, _/_, _%_, _^_, _≤_, _<_}
+use mathlib.Core.Path.{_≡_, sym, ap, ap₂, _∙_, subst, subst⁻¹}
+use Prim.Native.Nat.{ℕ, suc, _+_, _-_, _*_, _/_, _%_, _^_, _≤_, _<_}
 use native.Mathlib.Nat.{le-trans, le-of-eq, lt-of-le-of-lt, lt-of-lt-of-le, mul-comm, mod-eq-of-lt, add-zero, not-le-of-lt, le-step, le-of-suc-le-suc, lt-trans, add-sub-of-le}
 use native.Mathlib.Decide.{decLt}
 use native.Mathlib.Omega.{arith}
@@ -11,11 +11,11 @@ use Rattle.broadword.specs.Bits.{bit, count, ones}
 use Rattle.broadword.specs.Fields.{digit, word}
 use Rattle.broadword.specs.Places.{select, orElse}
 use Rattle.broadword.specs.declared.Found.{Found}
-use Rattle.broadword.specs.declared.Found.the-variants.{At, Nothing}
+use Rattle.broadword.specs.declared.Found.the-variants.{At}
 use Rattle.broadword.proofs.Bytes.{ks, msbs}
-use Rattle.broadword.proofs.Count.{bit-le, bit-mod, bit-shift, count-le, count-mono, count-same, count-add, count-fields, bit-digit}
-use Rattle.broadword.proofs.Fields.{digit-is, digit-lt, digit-mod, digit-word, byte-at, masked, top-byte, word-lt, word-or, word-sub, word-same, word-mono, word-shr-exact}
-use Rattle.broadword.proofs.Find.{Selected, select-at, select-some}
+use Rattle.broadword.proofs.Count.{bit-le, count-le, count-mono, count-same, count-add, count-fields, bit-digit}
+use Rattle.broadword.proofs.Fields.{digit-mod, digit-word, byte-at, masked, top-byte, word-or, word-sub, word-same, word-mono, word-shr-exact}
+use Rattle.broadword.proofs.Find.{select-at, select-some}
 use Rattle.broadword.proofs.Spread.{spread}
 use Rattle.broadword.proofs.Threshold.{passed}
 

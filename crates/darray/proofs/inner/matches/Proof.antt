@@ -16,7 +16,7 @@ use Rattle.darray.specs.Scan.{Position, Ahead}
 use Rattle.darray.proofs.Index.{Holds, before-next, before-le}
 use Rattle.darray.proofs.Flush.{Shows}
 use Rattle.darray.proofs.Blocks as block
-use Rattle.darray.proofs.Building as building
+use Rattle.darray.proofs.Building as ofBuilt
 use Rattle.darray.proofs.Matching as matching
 use Rattle.darray.proofs.inner.matches.Statement.{statement}
 use Rattle.darray.proofs.inner.matches.Tie as tie
@@ -30,60 +30,60 @@ abbrev μ-loop : tie.MeasureT-loop
 μ-loop words len over-one index n blocks over-start table a₀ at₀ over₀ j₀ a at over j = blocks - j
 
 add-over-start : tie.Need-add-over-start Inv-loop μ-loop
-add-over-start c = let a = c .before .before .before .args in let h = building.sizes-lt (positions (a .over-one) (a .words .now) (a .len)) (a .s) (c .before .before .before .pre .0 .sized) (building.positions-lt (a .over-one) (a .words .now) (a .len) (c .before .before .before .pre .0 .few)) in omega arith
+add-over-start c = let a = c .before .before .before .args in let h = ofBuilt.sizes-lt (positions (a .over-one) (a .words .now) (a .len)) (a .s) (c .before .before .before .pre .0 .sized) (ofBuilt.positions-lt (a .over-one) (a .words .now) (a .len) (c .before .before .before .pre .0 .few)) in omega arith
 
 add-over-start-2 : tie.Need-add-over-start-2 Inv-loop μ-loop
-add-over-start-2 c = let a = c .before .before .before .args in let h = building.sizes-lt (positions (a .over-one) (a .words .now) (a .len)) (a .s) (c .before .before .before .pre .0 .sized) (building.positions-lt (a .over-one) (a .words .now) (a .len) (c .before .before .before .pre .0 .few)) in omega arith
+add-over-start-2 c = let a = c .before .before .before .args in let h = ofBuilt.sizes-lt (positions (a .over-one) (a .words .now) (a .len)) (a .s) (c .before .before .before .pre .0 .sized) (ofBuilt.positions-lt (a .over-one) (a .words .now) (a .len) (c .before .before .before .pre .0 .few)) in omega arith
 
 select-in-byte-table-requires : tie.Need-select-in-byte-table-requires Inv-loop μ-loop
 select-in-byte-table-requires c κs = search needs
 
 loop-holds : tie.Need-loop-holds Inv-loop μ-loop
 unfolding before count
-loop-holds c = (search needs, refl, length-replicate {A = ℕ} 1024 0, record { counted = refl; to-come = search needs }, building.holds-none _ _)
+loop-holds c = (search needs, refl, length-replicate {A = ℕ} 1024 0, record { counted = refl; to-come = search needs }, ofBuilt.holds-none _ _)
 
 block-size-requires : tie.Need-block-size-requires Inv-loop μ-loop
-block-size-requires c κs = let a = c .before .before .before .before .before .before .args in omega (arith, building.block-there (a .over-one) (a .words .now) (a .len) (a .s) (length (a .index .now)) (c .before .before .before .before .before .before .pre .0) (c .before .loop .j) (c .loop-test .taken))
+block-size-requires c κs = let a = c .before .before .before .before .before .before .args in omega (arith, ofBuilt.block-there (a .over-one) (a .words .now) (a .len) (a .s) (length (a .index .now)) (c .before .before .before .before .before .before .pre .0) (c .before .loop .j) (c .loop-test .taken))
 
 ends-requires : tie.Need-ends-requires Inv-loop μ-loop
 ends-requires c κs =
     let a = c .before .before .before .before .before .before .before .before .args in
     let l = c .before .before .before .loop in
-    (c .before .before .before .before .select-in-byte-table .ensures, l .inv .3, building.inside (a .over-one) (a .words .now) (a .len) (a .s) (length (a .index .now)) (c .before .before .before .before .before .before .before .before .pre .0) (l .j) (min 1024 (a .s .positions - 1024 * l .j)) (c .before .before .loop-test .taken) refl (1024 * l .j) refl, building.block-there (a .over-one) (a .words .now) (a .len) (a .s) (length (a .index .now)) (c .before .before .before .before .before .before .before .before .pre .0) (c .before .before .before .loop .j) (c .before .before .loop-test .taken))
+    (c .before .before .before .before .select-in-byte-table .ensures, l .inv .3, ofBuilt.inside (a .over-one) (a .words .now) (a .len) (a .s) (length (a .index .now)) (c .before .before .before .before .before .before .before .before .pre .0) (l .j) (min 1024 (a .s .positions - 1024 * l .j)) (c .before .before .loop-test .taken) refl (1024 * l .j) refl, ofBuilt.block-there (a .over-one) (a .words .now) (a .len) (a .s) (length (a .index .now)) (c .before .before .before .before .before .before .before .before .pre .0) (c .before .before .before .loop .j) (c .before .before .loop-test .taken))
 
 mul-sample : tie.Need-mul-sample Inv-loop μ-loop
 mul-sample c =
     let a = c .before .before .before .before .before .before .before .before .before .before .before .args in
-    omega (arith, building.block-there (a .over-one) (a .words .now) (a .len) (a .s) (length (a .index .now)) (c .before .before .before .before .before .before .before .before .before .before .before .pre .0) (c .before .before .before .before .before .before .loop .j) (c .before .before .before .before .before .loop-test .taken), c .before .before .before .before .before .before .before .before .before .before .before .pre .0 .sized .positions, building.positions-lt (a .over-one) (a .words .now) (a .len) (c .before .before .before .before .before .before .before .before .before .before .before .pre .0 .few))
+    omega (arith, ofBuilt.block-there (a .over-one) (a .words .now) (a .len) (a .s) (length (a .index .now)) (c .before .before .before .before .before .before .before .before .before .before .before .pre .0) (c .before .before .before .before .before .before .loop .j) (c .before .before .before .before .before .loop-test .taken), c .before .before .before .before .before .before .before .before .before .before .before .pre .0 .sized .positions, ofBuilt.positions-lt (a .over-one) (a .words .now) (a .len) (c .before .before .before .before .before .before .before .before .before .before .before .pre .0 .few))
 
 sample-requires : tie.Need-sample-requires Inv-loop μ-loop
 sample-requires c κs =
     let a = c .before .before .before .before .before .before .before .before .before .before .before .args in
     let l = c .before .before .before .before .before .before .loop in
     let z = c .before .before .before .before .block-size .ensures in
-    let h = building.block-there (a .over-one) (a .words .now) (a .len) (a .s) (length (a .index .now)) (c .before .before .before .before .before .before .before .before .before .before .before .pre .0) (c .before .before .before .before .before .before .loop .j) (c .before .before .before .before .before .loop-test .taken) in (
+    let h = ofBuilt.block-there (a .over-one) (a .words .now) (a .len) (a .s) (length (a .index .now)) (c .before .before .before .before .before .before .before .before .before .before .before .pre .0) (c .before .before .before .before .before .before .loop .j) (c .before .before .before .before .before .loop-test .taken) in (
       l .inv .2,
       omega arith,
       omega arith,
-      block.span-rises (a .over-one) (a .words .now) (a .len) (a .s .positions) (building.positions-count (a .over-one) (a .words .now) (a .len) (a .s) (length (a .index .now)) (c .before .before .before .before .before .before .before .before .before .before .before .pre .0)) (c .before .before .before .before .before .before .loop .j) (c .before .before .ends .result) (building.block-there (a .over-one) (a .words .now) (a .len) (a .s) (length (a .index .now)) (c .before .before .before .before .before .before .before .before .before .before .before .pre .0) (c .before .before .before .before .before .before .loop .j) (c .before .before .before .before .before .loop-test .taken)) (c .before .before .ends .ensures),
+      block.span-rises (a .over-one) (a .words .now) (a .len) (a .s .positions) (ofBuilt.positions-count (a .over-one) (a .words .now) (a .len) (a .s) (length (a .index .now)) (c .before .before .before .before .before .before .before .before .before .before .before .pre .0)) (c .before .before .before .before .before .before .loop .j) (c .before .before .ends .result) (ofBuilt.block-there (a .over-one) (a .words .now) (a .len) (a .s) (length (a .index .now)) (c .before .before .before .before .before .before .before .before .before .before .before .pre .0) (c .before .before .before .before .before .before .loop .j) (c .before .before .before .before .before .loop-test .taken)) (c .before .before .ends .ensures),
       c .before .before .before .before .before .before .before .select-in-byte-table .ensures,
       c .before .before .ends .ensures .from,
       subst (λ (x : ℕ). Position (bitOver (a .over-one) (a .words .now)) (1024 * l .j + (x - 1)) (c .before .before .ends .result .last)) (sym z) (c .before .before .ends .ensures .last),
-      building.inside (a .over-one) (a .words .now) (a .len) (a .s) (length (a .index .now)) (c .before .before .before .before .before .before .before .before .before .before .before .pre .0) (l .j) (c .before .before .before .before .block-size .result) (c .before .before .before .before .before .loop-test .taken) z (1024 * l .j) refl,
+      ofBuilt.inside (a .over-one) (a .words .now) (a .len) (a .s) (length (a .index .now)) (c .before .before .before .before .before .before .before .before .before .before .before .pre .0) (l .j) (c .before .before .before .before .block-size .result) (c .before .before .before .before .before .loop-test .taken) z (1024 * l .j) refl,
     )
 
 shown : (c : tie.After-sample Inv-loop μ-loop) → Shows (positions (c .before .before .before .before .before .before .before .before .before .before .before .before .args .over-one) (c .before .before .before .before .before .before .before .before .before .before .before .before .args .words .now) (c .before .before .before .before .before .before .before .before .before .before .before .before .args .len)) (c .before .before .before .before .before .before .before .loop .j) (c .sample .last .0)
 shown c =
     let a = c .before .before .before .before .before .before .before .before .before .before .before .before .args in
     let e = c .before .before .before .ends .result in
-    building.sampled-shows (a .over-one) (a .words .now) (a .len) (a .s) (length (a .index .now)) (c .before .before .before .before .before .before .before .before .before .before .before .before .pre .0) (c .before .before .before .before .before .before .before .loop .j) (c .before .before .before .before .before .block-size .result) (c .before .before .before .before .before .before .loop-test .taken) (c .before .before .before .before .before .block-size .ensures) (c .sample .last .0) (leb 65536 (e .last - e .first)) (block.wide-is (a .over-one) (a .words .now) (a .len) (a .s .positions) (building.positions-count (a .over-one) (a .words .now) (a .len) (a .s) (length (a .index .now)) (c .before .before .before .before .before .before .before .before .before .before .before .before .pre .0)) (c .before .before .before .before .before .before .before .loop .j) (c .before .before .before .ends .result) (building.block-there (a .over-one) (a .words .now) (a .len) (a .s) (length (a .index .now)) (c .before .before .before .before .before .before .before .before .before .before .before .before .pre .0) (c .before .before .before .before .before .before .before .loop .j) (c .before .before .before .before .before .before .loop-test .taken)) (c .before .before .before .ends .ensures)) (c .sample .ensures)
+    ofBuilt.sampled-shows (a .over-one) (a .words .now) (a .len) (a .s) (length (a .index .now)) (c .before .before .before .before .before .before .before .before .before .before .before .before .pre .0) (c .before .before .before .before .before .before .before .loop .j) (c .before .before .before .before .before .block-size .result) (c .before .before .before .before .before .before .loop-test .taken) (c .before .before .before .before .before .block-size .ensures) (c .sample .last .0) (leb 65536 (e .last - e .first)) (block.wide-is (a .over-one) (a .words .now) (a .len) (a .s .positions) (ofBuilt.positions-count (a .over-one) (a .words .now) (a .len) (a .s) (length (a .index .now)) (c .before .before .before .before .before .before .before .before .before .before .before .before .pre .0)) (c .before .before .before .before .before .before .before .loop .j) (c .before .before .before .ends .result) (ofBuilt.block-there (a .over-one) (a .words .now) (a .len) (a .s) (length (a .index .now)) (c .before .before .before .before .before .before .before .before .before .before .before .before .pre .0) (c .before .before .before .before .before .before .before .loop .j) (c .before .before .before .before .before .before .loop-test .taken)) (c .before .before .before .ends .ensures)) (c .sample .ensures)
 
 room : (c : tie.After-a2 Inv-loop μ-loop)
     → (c .before .before .before .before .before .before .before .before .before .before .before .before .before .args .s .entries + 8 * c .before .before .before .before .before .before .before .before .loop .j < 2 ^ 64) × (c .before .before .before .before .before .before .before .before .before .before .before .before .before .args .s .entries + (c .before .before .before .before .before .before .before .before .before .before .before .before .before .args .s .lanes + 3) / 4 + c .before .before .before .before .before .before .before .before .loop .over < 2 ^ 64)
 room c =
     let a = c .before .before .before .before .before .before .before .before .before .before .before .before .before .args in
     let l = c .before .before .before .before .before .before .before .before .loop in
-    let h = building.flushable (a .over-one) (a .words .now) (a .len) (a .s) (length (a .index .now)) (c .before .before .before .before .before .before .before .before .before .before .before .before .before .pre .0) (l .j) (c .before .before .before .before .before .before .block-size .result) (c .before .before .before .before .before .before .before .loop-test .taken) (c .before .before .before .before .before .before .block-size .ensures) (c .before .sample .last .0) (shown (c .before)) (l .over) (l .inv .1) (a .index .now) refl in
+    let h = ofBuilt.flushable (a .over-one) (a .words .now) (a .len) (a .s) (length (a .index .now)) (c .before .before .before .before .before .before .before .before .before .before .before .before .before .pre .0) (l .j) (c .before .before .before .before .before .before .block-size .result) (c .before .before .before .before .before .before .before .loop-test .taken) (c .before .before .before .before .before .before .block-size .ensures) (c .before .sample .last .0) (shown (c .before)) (l .over) (l .inv .1) (a .index .now) refl in
     (omega (arith, h .lanes-room, c .before .before .before .before .before .before .before .before .before .before .before .before .before .good), omega (arith, h .over-room, c .before .before .before .before .before .before .before .before .before .before .before .before .before .good))
 
 mul-block-matches : tie.Need-mul-block-matches Inv-loop μ-loop
@@ -99,21 +99,21 @@ block-matches-requires : tie.Need-block-matches-requires Inv-loop μ-loop
 block-matches-requires c κs =
     let a = c .before .before .before .before .before .before .before .before .before .before .before .before .before .args in
     let l = c .before .before .before .before .before .before .before .before .loop in
-    building.flushable (a .over-one) (a .words .now) (a .len) (a .s) (length (a .index .now)) (c .before .before .before .before .before .before .before .before .before .before .before .before .before .pre .0) (l .j) (c .before .before .before .before .before .before .block-size .result) (c .before .before .before .before .before .before .before .loop-test .taken) (c .before .before .before .before .before .before .block-size .ensures) (c .before .sample .last .0) (shown (c .before)) (l .over) (l .inv .1) (a .index .now) refl
+    ofBuilt.flushable (a .over-one) (a .words .now) (a .len) (a .s) (length (a .index .now)) (c .before .before .before .before .before .before .before .before .before .before .before .before .before .pre .0) (l .j) (c .before .before .before .before .before .before .block-size .result) (c .before .before .before .before .before .before .before .loop-test .taken) (c .before .before .before .before .before .before .block-size .ensures) (c .before .sample .last .0) (shown (c .before)) (l .over) (l .inv .1) (a .index .now) refl
 
 returns : tie.Need-returns Inv-loop μ-loop
 returns c =
     let a = c .before .before .before .before .before .before .before .before .before .before .before .before .before .before .before .args in
     let l = c .before .before .before .before .before .before .before .before .before .before .loop in
-    matching.it-is-not (λ e. c .before .block-matches .ensures .no (not-true _ (c .if1 .taken)) (building.index-matches (a .over-one) (a .words .now) (a .len) (a .s) (length (a .index .now)) (c .before .before .before .before .before .before .before .before .before .before .before .before .before .before .before .pre .0) (l .j) (c .before .before .before .before .before .before .before .before .block-size .result) (c .before .before .before .before .before .before .before .before .before .loop-test .taken) (c .before .before .before .before .before .before .before .before .block-size .ensures) (c .before .before .before .sample .last .0) (shown (c .before .before .before)) (l .over) (l .inv .1) (a .index .now) e))
+    matching.it-is-not (λ e. c .before .block-matches .ensures .no (not-true _ (c .if1 .taken)) (ofBuilt.index-matches (a .over-one) (a .words .now) (a .len) (a .s) (length (a .index .now)) (c .before .before .before .before .before .before .before .before .before .before .before .before .before .before .before .pre .0) (l .j) (c .before .before .before .before .before .before .before .before .block-size .result) (c .before .before .before .before .before .before .before .before .before .loop-test .taken) (c .before .before .before .before .before .before .before .before .block-size .ensures) (c .before .before .before .sample .last .0) (shown (c .before .before .before)) (l .over) (l .inv .1) (a .index .now) e))
 
 spill-requires : tie.Need-spill-requires Inv-loop μ-loop
 spill-requires c κs =
     let a = c .before .before .before .before .before .before .before .before .before .before .before .before .before .before .before .before .args in
     let l = c .before .before .before .before .before .before .before .before .before .before .before .loop in
     let z = c .before .before .before .before .before .before .before .before .before .block-size .ensures in
-    let h = building.block-there (a .over-one) (a .words .now) (a .len) (a .s) (length (a .index .now)) (c .before .before .before .before .before .before .before .before .before .before .before .before .before .before .before .before .pre .0) (c .before .before .before .before .before .before .before .before .before .before .before .loop .j) (c .before .before .before .before .before .before .before .before .before .before .loop-test .taken) in
-    (omega arith, omega arith, building.rising (a .over-one) (a .words .now) (a .len) (a .s) (length (a .index .now)) (c .before .before .before .before .before .before .before .before .before .before .before .before .before .before .before .before .pre .0) (l .j) (c .before .before .before .before .before .before .before .before .before .block-size .result) (c .before .before .before .before .before .before .before .before .before .before .loop-test .taken) (c .before .before .before .before .before .before .before .before .before .block-size .ensures) (c .before .before .before .before .sample .last .0) (shown (c .before .before .before .before)))
+    let h = ofBuilt.block-there (a .over-one) (a .words .now) (a .len) (a .s) (length (a .index .now)) (c .before .before .before .before .before .before .before .before .before .before .before .before .before .before .before .before .pre .0) (c .before .before .before .before .before .before .before .before .before .before .before .loop .j) (c .before .before .before .before .before .before .before .before .before .before .loop-test .taken) in
+    (omega arith, omega arith, ofBuilt.rising (a .over-one) (a .words .now) (a .len) (a .s) (length (a .index .now)) (c .before .before .before .before .before .before .before .before .before .before .before .before .before .before .before .before .pre .0) (l .j) (c .before .before .before .before .before .before .before .before .before .block-size .result) (c .before .before .before .before .before .before .before .before .before .before .loop-test .taken) (c .before .before .before .before .before .before .before .before .before .block-size .ensures) (c .before .before .before .before .sample .last .0) (shown (c .before .before .before .before)))
 
 next-before : (c : tie.After-spill Inv-loop μ-loop)
     → c .before .before .before .before .before .before .before .before .before .before .before .before .loop .over + c .spill .result ≡ before (positions (c .before .before .before .before .before .before .before .before .before .before .before .before .before .before .before .before .before .args .over-one) (c .before .before .before .before .before .before .before .before .before .before .before .before .before .before .before .before .before .args .words .now) (c .before .before .before .before .before .before .before .before .before .before .before .before .before .before .before .before .before .args .len)) (c .before .before .before .before .before .before .before .before .before .before .before .before .loop .j + 1)
@@ -121,19 +121,19 @@ next-before c =
     let a = c .before .before .before .before .before .before .before .before .before .before .before .before .before .before .before .before .before .args in
     let l = c .before .before .before .before .before .before .before .before .before .before .before .before .loop in
     let P = positions (a .over-one) (a .words .now) (a .len) in
-    ap₂ (λ (x y : ℕ). x + y) (l .inv .1) (c .spill .ensures ∙ building.spill-is (a .over-one) (a .words .now) (a .len) (a .s) (length (a .index .now)) (c .before .before .before .before .before .before .before .before .before .before .before .before .before .before .before .before .before .pre .0) (l .j) (c .before .before .before .before .before .before .before .before .before .before .block-size .result) (c .before .before .before .before .before .before .before .before .before .before .before .loop-test .taken) (c .before .before .before .before .before .before .before .before .before .before .block-size .ensures) (c .before .before .before .before .before .sample .last .0) (shown (c .before .before .before .before .before)))
+    ap₂ (λ (x y : ℕ). x + y) (l .inv .1) (c .spill .ensures ∙ ofBuilt.spill-is (a .over-one) (a .words .now) (a .len) (a .s) (length (a .index .now)) (c .before .before .before .before .before .before .before .before .before .before .before .before .before .before .before .before .before .pre .0) (l .j) (c .before .before .before .before .before .before .before .before .before .before .block-size .result) (c .before .before .before .before .before .before .before .before .before .before .before .loop-test .taken) (c .before .before .before .before .before .before .before .before .before .before .block-size .ensures) (c .before .before .before .before .before .sample .last .0) (shown (c .before .before .before .before .before)))
     ∙ sym (ap (before P) (add-one (l .j)) ∙ before-next P (l .j))
 
 add-over : tie.Need-add-over Inv-loop μ-loop
 add-over c =
     let a = c .before .before .before .before .before .before .before .before .before .before .before .before .before .before .before .before .before .args in
     let P = positions (a .over-one) (a .words .now) (a .len) in
-    omega (arith, next-before c, before-le P (c .before .before .before .before .before .before .before .before .before .before .before .before .loop .j + 1), building.positions-lt (a .over-one) (a .words .now) (a .len) (c .before .before .before .before .before .before .before .before .before .before .before .before .before .before .before .before .before .pre .0 .few))
+    omega (arith, next-before c, before-le P (c .before .before .before .before .before .before .before .before .before .before .before .before .loop .j + 1), ofBuilt.positions-lt (a .over-one) (a .words .now) (a .len) (c .before .before .before .before .before .before .before .before .before .before .before .before .before .before .before .before .before .pre .0 .few))
 
 add-j : tie.Need-add-j Inv-loop μ-loop
 add-j c =
     let a = c .before .before .before .before .before .before .before .before .before .before .before .before .before .before .before .before .before .before .args in
-    let h = building.sizes-lt (positions (a .over-one) (a .words .now) (a .len)) (a .s) (c .before .before .before .before .before .before .before .before .before .before .before .before .before .before .before .before .before .before .pre .0 .sized) (building.positions-lt (a .over-one) (a .words .now) (a .len) (c .before .before .before .before .before .before .before .before .before .before .before .before .before .before .before .before .before .before .pre .0 .few)) in
+    let h = ofBuilt.sizes-lt (positions (a .over-one) (a .words .now) (a .len)) (a .s) (c .before .before .before .before .before .before .before .before .before .before .before .before .before .before .before .before .before .before .pre .0 .sized) (ofBuilt.positions-lt (a .over-one) (a .words .now) (a .len) (c .before .before .before .before .before .before .before .before .before .before .before .before .before .before .before .before .before .before .pre .0 .few)) in
     omega (arith, c .before .before .before .before .before .before .before .before .before .before .before .before .loop-test .taken)
 
 loop-less : tie.Need-loop-less Inv-loop μ-loop
@@ -147,7 +147,7 @@ loop-again c =
       next-before (c .before),
       c .before .before .before .before .before .before .sample .ensures .long,
       block.ahead-le _ _ _ _ (omega arith) (c .before .before .before .before .before .before .before .before .before .ends .ensures .next),
-      building.next-matches (a .over-one) (a .words .now) (a .len) (a .s) (length (a .index .now)) (c .before .before .before .before .before .before .before .before .before .before .before .before .before .before .before .before .before .before .pre .0) (l .j) (c .before .before .before .before .before .before .before .before .before .before .before .block-size .result) (c .before .before .before .before .before .before .before .before .before .before .before .before .loop-test .taken) (c .before .before .before .before .before .before .before .before .before .before .before .block-size .ensures) (c .before .before .before .before .before .before .sample .last .0) (shown (c .before .before .before .before .before .before)) (l .over) (l .inv .1) (a .index .now) (c .before .before .before .before .block-matches .ensures .yes (not-false _ (c .before .before .before .if1 .left))) (l .inv .4),
+      ofBuilt.next-matches (a .over-one) (a .words .now) (a .len) (a .s) (length (a .index .now)) (c .before .before .before .before .before .before .before .before .before .before .before .before .before .before .before .before .before .before .pre .0) (l .j) (c .before .before .before .before .before .before .before .before .before .before .before .block-size .result) (c .before .before .before .before .before .before .before .before .before .before .before .before .loop-test .taken) (c .before .before .before .before .before .before .before .before .before .before .before .block-size .ensures) (c .before .before .before .before .before .before .sample .last .0) (shown (c .before .before .before .before .before .before)) (l .over) (l .inv .1) (a .index .now) (c .before .before .before .before .block-matches .ensures .yes (not-false _ (c .before .before .before .if1 .left))) (l .inv .4),
     )
 
 returns-2 : tie.Need-returns-2 Inv-loop μ-loop

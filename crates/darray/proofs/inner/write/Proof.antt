@@ -13,7 +13,7 @@ use Rattle.darray.specs.Index.{before, indexWords}
 use Rattle.darray.specs.Pending.{Left}
 use Rattle.darray.specs.declared.pending.Pending.{Pending}
 use Rattle.darray.proofs.Index.{Holds, before-next, before-le}
-use Rattle.darray.proofs.Building as building
+use Rattle.darray.proofs.Building as ofBuilt
 use Rattle.darray.proofs.inner.write.Statement.{statement}
 use Rattle.darray.proofs.inner.write.Tie as tie
 
@@ -27,10 +27,10 @@ abbrev μ-loop : tie.MeasureT-loop
 μ-loop words len over-one out₀ n blocks over-start p₀ from₀ over₀ j₀ out p from over j = blocks - j
 
 add-over-start : tie.Need-add-over-start Inv-loop μ-loop
-add-over-start c = let a = c .before .before .before .args in let h = building.sizes-lt (positions (a .over-one) (a .words .now) (a .len)) (a .s) (c .before .before .before .pre .sized) (building.positions-lt (a .over-one) (a .words .now) (a .len) (c .before .before .before .pre .few)) in omega arith
+add-over-start c = let a = c .before .before .before .args in let h = ofBuilt.sizes-lt (positions (a .over-one) (a .words .now) (a .len)) (a .s) (c .before .before .before .pre .sized) (ofBuilt.positions-lt (a .over-one) (a .words .now) (a .len) (c .before .before .before .pre .few)) in omega arith
 
 add-over-start-2 : tie.Need-add-over-start-2 Inv-loop μ-loop
-add-over-start-2 c = let a = c .before .before .before .args in let h = building.sizes-lt (positions (a .over-one) (a .words .now) (a .len)) (a .s) (c .before .before .before .pre .sized) (building.positions-lt (a .over-one) (a .words .now) (a .len) (c .before .before .before .pre .few)) in omega arith
+add-over-start-2 c = let a = c .before .before .before .args in let h = ofBuilt.sizes-lt (positions (a .over-one) (a .words .now) (a .len)) (a .s) (c .before .before .before .pre .sized) (ofBuilt.positions-lt (a .over-one) (a .words .now) (a .len) (c .before .before .before .pre .few)) in omega arith
 
 empty-requires : tie.Need-empty-requires Inv-loop μ-loop
 empty-requires c κs = search needs
@@ -46,13 +46,13 @@ loop-holds c =
       refl,
       refl,
       ap length (c .before .empty .ensures .0) ∙ length-replicate {A = ℕ} 1024 0,
-      λ h. (c .start .ensures .1 (building.some-words (a .over-one) (a .words .now) (a .len) (a .s) (length (a .out .now)) (c .before .before .before .before .before .pre) h), c .start .ensures .0),
-      building.holds-none _ _,
+      λ h. (c .start .ensures .1 (ofBuilt.some-words (a .over-one) (a .words .now) (a .len) (a .s) (length (a .out .now)) (c .before .before .before .before .before .pre) h), c .start .ensures .0),
+      ofBuilt.holds-none _ _,
       λ k h. refl,
     )
 
 block-size-requires : tie.Need-block-size-requires Inv-loop μ-loop
-block-size-requires c κs = let a = c .before .before .before .before .before .before .before .args in omega (arith, building.block-there (a .over-one) (a .words .now) (a .len) (a .s) (length (a .out .now)) (c .before .before .before .before .before .before .before .pre) (c .before .loop .j) (c .loop-test .taken))
+block-size-requires c κs = let a = c .before .before .before .before .before .before .before .args in omega (arith, ofBuilt.block-there (a .over-one) (a .words .now) (a .len) (a .s) (length (a .out .now)) (c .before .before .before .before .before .before .before .pre) (c .before .loop .j) (c .loop-test .taken))
 
 fill-requires : tie.Need-fill-requires Inv-loop μ-loop
 fill-requires c κs =
@@ -61,23 +61,23 @@ fill-requires c κs =
     let i = l .inv .4 (c .before .before .loop-test .taken) in (
       l .inv .3,
       omega (arith, c .before .block-size .ensures),
-      omega (arith, c .before .block-size .ensures, building.block-there (a .over-one) (a .words .now) (a .len) (a .s) (length (a .out .now)) (c .before .before .before .before .before .before .before .before .before .pre) (c .before .before .before .loop .j) (c .before .before .loop-test .taken)),
+      omega (arith, c .before .block-size .ensures, ofBuilt.block-there (a .over-one) (a .words .now) (a .len) (a .s) (length (a .out .now)) (c .before .before .before .before .before .before .before .before .before .pre) (c .before .before .before .loop .j) (c .before .before .loop-test .taken)),
       i .0,
-      building.inside (a .over-one) (a .words .now) (a .len) (a .s) (length (a .out .now)) (c .before .before .before .before .before .before .before .before .before .pre) (l .j) (c .before .block-size .result) (c .before .before .loop-test .taken) (c .before .block-size .ensures) (l .from .taken) (i .1),
+      ofBuilt.inside (a .over-one) (a .words .now) (a .len) (a .s) (length (a .out .now)) (c .before .before .before .before .before .before .before .before .before .pre) (l .j) (c .before .block-size .result) (c .before .before .loop-test .taken) (c .before .block-size .ensures) (l .from .taken) (i .1),
     )
 
 spill-requires : tie.Need-spill-requires Inv-loop μ-loop
 spill-requires c κs =
     let a = c .before .before .before .before .before .before .before .before .before .before .before .before .args in
     let l = c .before .before .before .before .before .before .loop in
-    (omega (arith, c .before .before .before .before .block-size .ensures, building.block-there (a .over-one) (a .words .now) (a .len) (a .s) (length (a .out .now)) (c .before .before .before .before .before .before .before .before .before .before .before .before .pre) (c .before .before .before .before .before .before .loop .j) (c .before .before .before .before .before .loop-test .taken)), omega (arith, c .before .before .before .before .block-size .ensures), building.rising (a .over-one) (a .words .now) (a .len) (a .s) (length (a .out .now)) (c .before .before .before .before .before .before .before .before .before .before .before .before .pre) (l .j) (c .before .before .before .before .block-size .result) (c .before .before .before .before .before .loop-test .taken) (c .before .before .before .before .block-size .ensures) (c .before .before .fill .last .0) (building.taken-shows (a .over-one) (a .words .now) (a .len) (a .s) (length (a .out .now)) (c .before .before .before .before .before .before .before .before .before .before .before .before .pre) (l .j) (c .before .before .before .before .block-size .result) (c .before .before .before .before .before .loop-test .taken) (c .before .before .before .before .block-size .ensures) (c .before .before .fill .last .0) (l .from) (c .before .before .fill .result) (l .inv .4 (c .before .before .before .before .before .loop-test .taken) .1) (c .before .before .fill .ensures)))
+    (omega (arith, c .before .before .before .before .block-size .ensures, ofBuilt.block-there (a .over-one) (a .words .now) (a .len) (a .s) (length (a .out .now)) (c .before .before .before .before .before .before .before .before .before .before .before .before .pre) (c .before .before .before .before .before .before .loop .j) (c .before .before .before .before .before .loop-test .taken)), omega (arith, c .before .before .before .before .block-size .ensures), ofBuilt.rising (a .over-one) (a .words .now) (a .len) (a .s) (length (a .out .now)) (c .before .before .before .before .before .before .before .before .before .before .before .before .pre) (l .j) (c .before .before .before .before .block-size .result) (c .before .before .before .before .before .loop-test .taken) (c .before .before .before .before .block-size .ensures) (c .before .before .fill .last .0) (ofBuilt.taken-shows (a .over-one) (a .words .now) (a .len) (a .s) (length (a .out .now)) (c .before .before .before .before .before .before .before .before .before .before .before .before .pre) (l .j) (c .before .before .before .before .block-size .result) (c .before .before .before .before .before .loop-test .taken) (c .before .before .before .before .block-size .ensures) (c .before .before .fill .last .0) (l .from) (c .before .before .fill .result) (l .inv .4 (c .before .before .before .before .before .loop-test .taken) .1) (c .before .before .fill .ensures)))
 
 room : (c : tie.After-flush-arg Inv-loop μ-loop)
     → (c .before .before .before .before .before .before .before .before .before .before .before .before .before .before .args .s .entries + 8 * c .before .before .before .before .before .before .before .before .loop .j < 2 ^ 64) × (c .before .before .before .before .before .before .before .before .before .before .before .before .before .before .args .s .entries + (c .before .before .before .before .before .before .before .before .before .before .before .before .before .before .args .s .lanes + 3) / 4 + c .before .before .before .before .before .before .before .before .loop .over < 2 ^ 64)
 room c =
     let a = c .before .before .before .before .before .before .before .before .before .before .before .before .before .before .args in
     let l = c .before .before .before .before .before .before .before .before .loop in
-    let h = building.flushable (a .over-one) (a .words .now) (a .len) (a .s) (length (a .out .now)) (c .before .before .before .before .before .before .before .before .before .before .before .before .before .before .pre) (l .j) (c .before .before .before .before .before .before .block-size .result) (c .before .before .before .before .before .before .before .loop-test .taken) (c .before .before .before .before .before .before .block-size .ensures) (c .before .before .before .before .fill .last .0) (building.taken-shows (a .over-one) (a .words .now) (a .len) (a .s) (length (a .out .now)) (c .before .before .before .before .before .before .before .before .before .before .before .before .before .before .pre) (l .j) (c .before .before .before .before .before .before .block-size .result) (c .before .before .before .before .before .before .before .loop-test .taken) (c .before .before .before .before .before .before .block-size .ensures) (c .before .before .before .before .fill .last .0) (l .from) (c .before .before .before .before .fill .result) (l .inv .4 (c .before .before .before .before .before .before .before .loop-test .taken) .1) (c .before .before .before .before .fill .ensures)) (l .over) (l .inv .1) (l .out) (l .inv .2) in
+    let h = ofBuilt.flushable (a .over-one) (a .words .now) (a .len) (a .s) (length (a .out .now)) (c .before .before .before .before .before .before .before .before .before .before .before .before .before .before .pre) (l .j) (c .before .before .before .before .before .before .block-size .result) (c .before .before .before .before .before .before .before .loop-test .taken) (c .before .before .before .before .before .before .block-size .ensures) (c .before .before .before .before .fill .last .0) (ofBuilt.taken-shows (a .over-one) (a .words .now) (a .len) (a .s) (length (a .out .now)) (c .before .before .before .before .before .before .before .before .before .before .before .before .before .before .pre) (l .j) (c .before .before .before .before .before .before .block-size .result) (c .before .before .before .before .before .before .before .loop-test .taken) (c .before .before .before .before .before .before .block-size .ensures) (c .before .before .before .before .fill .last .0) (l .from) (c .before .before .before .before .fill .result) (l .inv .4 (c .before .before .before .before .before .before .before .loop-test .taken) .1) (c .before .before .before .before .fill .ensures)) (l .over) (l .inv .1) (l .out) (l .inv .2) in
     (omega (arith, h .lanes-room, l .inv .2, c .before .before .before .before .before .before .before .before .before .before .before .before .before .before .good), omega (arith, h .over-room, l .inv .2, c .before .before .before .before .before .before .before .before .before .before .before .before .before .before .good))
 
 mul-flush : tie.Need-mul-flush Inv-loop μ-loop
@@ -93,7 +93,7 @@ flush-requires : tie.Need-flush-requires Inv-loop μ-loop
 flush-requires c κs =
     let a = c .before .before .before .before .before .before .before .before .before .before .before .before .before .before .args in
     let l = c .before .before .before .before .before .before .before .before .loop in
-    building.flushable (a .over-one) (a .words .now) (a .len) (a .s) (length (a .out .now)) (c .before .before .before .before .before .before .before .before .before .before .before .before .before .before .pre) (l .j) (c .before .before .before .before .before .before .block-size .result) (c .before .before .before .before .before .before .before .loop-test .taken) (c .before .before .before .before .before .before .block-size .ensures) (c .before .before .before .before .fill .last .0) (building.taken-shows (a .over-one) (a .words .now) (a .len) (a .s) (length (a .out .now)) (c .before .before .before .before .before .before .before .before .before .before .before .before .before .before .pre) (l .j) (c .before .before .before .before .before .before .block-size .result) (c .before .before .before .before .before .before .before .loop-test .taken) (c .before .before .before .before .before .before .block-size .ensures) (c .before .before .before .before .fill .last .0) (l .from) (c .before .before .before .before .fill .result) (l .inv .4 (c .before .before .before .before .before .before .before .loop-test .taken) .1) (c .before .before .before .before .fill .ensures)) (l .over) (l .inv .1) (l .out) (l .inv .2)
+    ofBuilt.flushable (a .over-one) (a .words .now) (a .len) (a .s) (length (a .out .now)) (c .before .before .before .before .before .before .before .before .before .before .before .before .before .before .pre) (l .j) (c .before .before .before .before .before .before .block-size .result) (c .before .before .before .before .before .before .before .loop-test .taken) (c .before .before .before .before .before .before .block-size .ensures) (c .before .before .before .before .fill .last .0) (ofBuilt.taken-shows (a .over-one) (a .words .now) (a .len) (a .s) (length (a .out .now)) (c .before .before .before .before .before .before .before .before .before .before .before .before .before .before .pre) (l .j) (c .before .before .before .before .before .before .block-size .result) (c .before .before .before .before .before .before .before .loop-test .taken) (c .before .before .before .before .before .before .block-size .ensures) (c .before .before .before .before .fill .last .0) (l .from) (c .before .before .before .before .fill .result) (l .inv .4 (c .before .before .before .before .before .before .before .loop-test .taken) .1) (c .before .before .before .before .fill .ensures)) (l .over) (l .inv .1) (l .out) (l .inv .2)
 
 next-before : (c : tie.After-slice-known2 Inv-loop μ-loop)
     → c .before .before .before .before .before .before .before .before .before .before .before .loop .over + c .before .before .before .before .spill .result ≡ before (positions (c .before .before .before .before .before .before .before .before .before .before .before .before .before .before .before .before .before .args .over-one) (c .before .before .before .before .before .before .before .before .before .before .before .before .before .before .before .before .before .args .words .now) (c .before .before .before .before .before .before .before .before .before .before .before .before .before .before .before .before .before .args .len)) (c .before .before .before .before .before .before .before .before .before .before .before .loop .j + 1)
@@ -101,19 +101,19 @@ next-before c =
     let a = c .before .before .before .before .before .before .before .before .before .before .before .before .before .before .before .before .before .args in
     let l = c .before .before .before .before .before .before .before .before .before .before .before .loop in
     let P = positions (a .over-one) (a .words .now) (a .len) in
-    ap₂ (λ (x y : ℕ). x + y) (l .inv .1) (c .before .before .before .before .spill .ensures ∙ building.spill-is (a .over-one) (a .words .now) (a .len) (a .s) (length (a .out .now)) (c .before .before .before .before .before .before .before .before .before .before .before .before .before .before .before .before .before .pre) (l .j) (c .before .before .before .before .before .before .before .before .before .block-size .result) (c .before .before .before .before .before .before .before .before .before .before .loop-test .taken) (c .before .before .before .before .before .before .before .before .before .block-size .ensures) (c .before .before .before .before .before .before .before .fill .last .0) (building.taken-shows (a .over-one) (a .words .now) (a .len) (a .s) (length (a .out .now)) (c .before .before .before .before .before .before .before .before .before .before .before .before .before .before .before .before .before .pre) (l .j) (c .before .before .before .before .before .before .before .before .before .block-size .result) (c .before .before .before .before .before .before .before .before .before .before .loop-test .taken) (c .before .before .before .before .before .before .before .before .before .block-size .ensures) (c .before .before .before .before .before .before .before .fill .last .0) (l .from) (c .before .before .before .before .before .before .before .fill .result) (l .inv .4 (c .before .before .before .before .before .before .before .before .before .before .loop-test .taken) .1) (c .before .before .before .before .before .before .before .fill .ensures)))
+    ap₂ (λ (x y : ℕ). x + y) (l .inv .1) (c .before .before .before .before .spill .ensures ∙ ofBuilt.spill-is (a .over-one) (a .words .now) (a .len) (a .s) (length (a .out .now)) (c .before .before .before .before .before .before .before .before .before .before .before .before .before .before .before .before .before .pre) (l .j) (c .before .before .before .before .before .before .before .before .before .block-size .result) (c .before .before .before .before .before .before .before .before .before .before .loop-test .taken) (c .before .before .before .before .before .before .before .before .before .block-size .ensures) (c .before .before .before .before .before .before .before .fill .last .0) (ofBuilt.taken-shows (a .over-one) (a .words .now) (a .len) (a .s) (length (a .out .now)) (c .before .before .before .before .before .before .before .before .before .before .before .before .before .before .before .before .before .pre) (l .j) (c .before .before .before .before .before .before .before .before .before .block-size .result) (c .before .before .before .before .before .before .before .before .before .before .loop-test .taken) (c .before .before .before .before .before .before .before .before .before .block-size .ensures) (c .before .before .before .before .before .before .before .fill .last .0) (l .from) (c .before .before .before .before .before .before .before .fill .result) (l .inv .4 (c .before .before .before .before .before .before .before .before .before .before .loop-test .taken) .1) (c .before .before .before .before .before .before .before .fill .ensures)))
     ∙ sym (ap (before P) (add-one (l .j)) ∙ before-next P (l .j))
 
 add-over : tie.Need-add-over Inv-loop μ-loop
 add-over c =
     let a = c .before .before .before .before .before .before .before .before .before .before .before .before .before .before .before .before .before .args in
     let P = positions (a .over-one) (a .words .now) (a .len) in
-    omega (arith, next-before c, before-le P (c .before .before .before .before .before .before .before .before .before .before .before .loop .j + 1), building.positions-lt (a .over-one) (a .words .now) (a .len) (c .before .before .before .before .before .before .before .before .before .before .before .before .before .before .before .before .before .pre .few))
+    omega (arith, next-before c, before-le P (c .before .before .before .before .before .before .before .before .before .before .before .loop .j + 1), ofBuilt.positions-lt (a .over-one) (a .words .now) (a .len) (c .before .before .before .before .before .before .before .before .before .before .before .before .before .before .before .before .before .pre .few))
 
 add-j : tie.Need-add-j Inv-loop μ-loop
 add-j c =
     let a = c .before .before .before .before .before .before .before .before .before .before .before .before .before .before .before .before .before .args in
-    let h = building.sizes-lt (positions (a .over-one) (a .words .now) (a .len)) (a .s) (c .before .before .before .before .before .before .before .before .before .before .before .before .before .before .before .before .before .pre .sized) (building.positions-lt (a .over-one) (a .words .now) (a .len) (c .before .before .before .before .before .before .before .before .before .before .before .before .before .before .before .before .before .pre .few)) in
+    let h = ofBuilt.sizes-lt (positions (a .over-one) (a .words .now) (a .len)) (a .s) (c .before .before .before .before .before .before .before .before .before .before .before .before .before .before .before .before .before .pre .sized) (ofBuilt.positions-lt (a .over-one) (a .words .now) (a .len) (c .before .before .before .before .before .before .before .before .before .before .before .before .before .before .before .before .before .pre .few)) in
     omega (arith, c .before .before .before .before .before .before .before .before .before .before .loop-test .taken)
 
 loop-less : tie.Need-loop-less Inv-loop μ-loop
@@ -129,10 +129,10 @@ loop-again c =
       ap (λ (q : Pending). length (q .positions)) (c .before .before .flush .ensures .0) ∙ c .before .before .before .before .before .before .before .fill .ensures .long,
       λ h. (
         c .before .before .before .before .before .before .before .fill .ensures .left,
-        c .before .before .before .before .before .before .before .fill .ensures .taken ∙ omega (arith, l .inv .4 (c .before .before .before .before .before .before .before .before .before .before .loop-test .taken) .1, c .before .before .before .before .before .before .before .before .before .block-size .ensures, building.block-there (a .over-one) (a .words .now) (a .len) (a .s) (length (a .out .now)) (c .before .before .before .before .before .before .before .before .before .before .before .before .before .before .before .before .before .pre) (l .j + 1) h),
+        c .before .before .before .before .before .before .before .fill .ensures .taken ∙ omega (arith, l .inv .4 (c .before .before .before .before .before .before .before .before .before .before .loop-test .taken) .1, c .before .before .before .before .before .before .before .before .before .block-size .ensures, ofBuilt.block-there (a .over-one) (a .words .now) (a .len) (a .s) (length (a .out .now)) (c .before .before .before .before .before .before .before .before .before .before .before .before .before .before .before .before .before .pre) (l .j + 1) h),
       ),
-      building.next-holds (a .over-one) (a .words .now) (a .len) (a .s) (length (a .out .now)) (c .before .before .before .before .before .before .before .before .before .before .before .before .before .before .before .before .before .pre) (l .j) (c .before .before .before .before .before .before .before .before .before .block-size .result) (c .before .before .before .before .before .before .before .before .before .before .loop-test .taken) (c .before .before .before .before .before .before .before .before .before .block-size .ensures) (c .before .before .before .before .before .before .before .fill .last .0) (building.taken-shows (a .over-one) (a .words .now) (a .len) (a .s) (length (a .out .now)) (c .before .before .before .before .before .before .before .before .before .before .before .before .before .before .before .before .before .pre) (l .j) (c .before .before .before .before .before .before .before .before .before .block-size .result) (c .before .before .before .before .before .before .before .before .before .before .loop-test .taken) (c .before .before .before .before .before .before .before .before .before .block-size .ensures) (c .before .before .before .before .before .before .before .fill .last .0) (l .from) (c .before .before .before .before .before .before .before .fill .result) (l .inv .4 (c .before .before .before .before .before .before .before .before .before .before .loop-test .taken) .1) (c .before .before .before .before .before .before .before .fill .ensures)) (l .over) (l .inv .1) (l .out) (l .inv .2) (c .before .before .flush .last .1 .0) (c .before .before .flush .ensures .1) (l .inv .5),
-      λ k h. building.next-past (a .over-one) (a .words .now) (a .len) (a .s) (length (a .out .now)) (c .before .before .before .before .before .before .before .before .before .before .before .before .before .before .before .before .before .pre) (l .j) (c .before .before .before .before .before .before .before .before .before .block-size .result) (c .before .before .before .before .before .before .before .before .before .before .loop-test .taken) (c .before .before .before .before .before .before .before .before .before .block-size .ensures) (c .before .before .before .before .before .before .before .fill .last .0) (building.taken-shows (a .over-one) (a .words .now) (a .len) (a .s) (length (a .out .now)) (c .before .before .before .before .before .before .before .before .before .before .before .before .before .before .before .before .before .pre) (l .j) (c .before .before .before .before .before .before .before .before .before .block-size .result) (c .before .before .before .before .before .before .before .before .before .before .loop-test .taken) (c .before .before .before .before .before .before .before .before .before .block-size .ensures) (c .before .before .before .before .before .before .before .fill .last .0) (l .from) (c .before .before .before .before .before .before .before .fill .result) (l .inv .4 (c .before .before .before .before .before .before .before .before .before .before .loop-test .taken) .1) (c .before .before .before .before .before .before .before .fill .ensures)) (l .over) (l .inv .1) (l .out) (l .inv .2) (c .before .before .flush .last .1 .0) (c .before .before .flush .ensures .1) k h ∙ l .inv .6 k h,
+      ofBuilt.next-holds (a .over-one) (a .words .now) (a .len) (a .s) (length (a .out .now)) (c .before .before .before .before .before .before .before .before .before .before .before .before .before .before .before .before .before .pre) (l .j) (c .before .before .before .before .before .before .before .before .before .block-size .result) (c .before .before .before .before .before .before .before .before .before .before .loop-test .taken) (c .before .before .before .before .before .before .before .before .before .block-size .ensures) (c .before .before .before .before .before .before .before .fill .last .0) (ofBuilt.taken-shows (a .over-one) (a .words .now) (a .len) (a .s) (length (a .out .now)) (c .before .before .before .before .before .before .before .before .before .before .before .before .before .before .before .before .before .pre) (l .j) (c .before .before .before .before .before .before .before .before .before .block-size .result) (c .before .before .before .before .before .before .before .before .before .before .loop-test .taken) (c .before .before .before .before .before .before .before .before .before .block-size .ensures) (c .before .before .before .before .before .before .before .fill .last .0) (l .from) (c .before .before .before .before .before .before .before .fill .result) (l .inv .4 (c .before .before .before .before .before .before .before .before .before .before .loop-test .taken) .1) (c .before .before .before .before .before .before .before .fill .ensures)) (l .over) (l .inv .1) (l .out) (l .inv .2) (c .before .before .flush .last .1 .0) (c .before .before .flush .ensures .1) (l .inv .5),
+      λ k h. ofBuilt.next-past (a .over-one) (a .words .now) (a .len) (a .s) (length (a .out .now)) (c .before .before .before .before .before .before .before .before .before .before .before .before .before .before .before .before .before .pre) (l .j) (c .before .before .before .before .before .before .before .before .before .block-size .result) (c .before .before .before .before .before .before .before .before .before .before .loop-test .taken) (c .before .before .before .before .before .before .before .before .before .block-size .ensures) (c .before .before .before .before .before .before .before .fill .last .0) (ofBuilt.taken-shows (a .over-one) (a .words .now) (a .len) (a .s) (length (a .out .now)) (c .before .before .before .before .before .before .before .before .before .before .before .before .before .before .before .before .before .pre) (l .j) (c .before .before .before .before .before .before .before .before .before .block-size .result) (c .before .before .before .before .before .before .before .before .before .before .loop-test .taken) (c .before .before .before .before .before .before .before .before .before .block-size .ensures) (c .before .before .before .before .before .before .before .fill .last .0) (l .from) (c .before .before .before .before .before .before .before .fill .result) (l .inv .4 (c .before .before .before .before .before .before .before .before .before .before .loop-test .taken) .1) (c .before .before .before .before .before .before .before .fill .ensures)) (l .over) (l .inv .1) (l .out) (l .inv .2) (c .before .before .flush .last .1 .0) (c .before .before .flush .ensures .1) k h ∙ l .inv .6 k h,
     )
 
 same-length : tie.Need-same-length Inv-loop μ-loop
@@ -144,7 +144,7 @@ returns c =
     let l = c .before .loop in
     let P = positions (a .over-one) (a .words .now) (a .len) in
     let e : l .j ≡ a .s .entries = omega (arith, l .inv .0, c .loop-test .left) in
-    building.holds-whole P (a .out .now) (l .out) (l .inv .2) (c .before .before .before .before .before .before .before .pre .room) (subst (Holds P (l .out)) (e ∙ c .before .before .before .before .before .before .before .pre .sized .entries) (l .inv .5)) (l .inv .6)
+    ofBuilt.holds-whole P (a .out .now) (l .out) (l .inv .2) (c .before .before .before .before .before .before .before .pre .room) (subst (Holds P (l .out)) (e ∙ c .before .before .before .before .before .before .before .pre .sized .entries) (l .inv .5)) (l .inv .6)
 
 pub write-spec : {M : Type 1} → statement M
 write-spec =

@@ -2,13 +2,12 @@
 -- Assumes nothing.
 use borrow.Author.Needs.{needs}
 use mathlib.Core.Path.{_≡_, sym, ap, _∙_, subst}
-use Prim.Native.Nat.{ℕ, _+_, _-_, _*_, _^_, _≤_, _<_}
+use Prim.Native.Nat.{ℕ, _+_, _-_, _*_, _≤_}
 use native.Mathlib.Nat.{add-zero}
 use native.Mathlib.Omega.{arith}
-use lib.ListN.{length, getD}
 use Rattle.broadword.specs.Bits.{bit, count, ones}
 use Rattle.broadword.proofs.Count.{bit-le, count-le}
-use Rattle.bit_words.specs.Vector.{bitOver, wordOver}
+use Rattle.bit_words.specs.Vector.{bitOver}
 use Rattle.darray.proofs.Counts as scan
 use Rattle.darray.proofs.scan.count_eight.Statement.{statement}
 use Rattle.darray.proofs.scan.count_eight.Tie as tie

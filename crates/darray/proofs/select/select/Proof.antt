@@ -1,12 +1,8 @@
 -- `darray::select::select` meets its contract.
 -- Assumes nothing.
 use borrow.Author.Needs.{needs}
-use mathlib.Core.Path.{_≡_, sym, ap, _∙_}
-use Prim.Native.Nat.{ℕ, _+_, _*_, _/_, _%_, _≤_, _<_}
+use mathlib.Core.Path.{sym, _∙_}
 use native.Mathlib.Omega.{arith}
-use Rattle.broadword.specs.Bits.{count}
-use Rattle.broadword.specs.Places.{select}
-use Rattle.bit_words.specs.Vector.{bitOver}
 use Rattle.darray.proofs.Through as through
 use Rattle.darray.proofs.select.select.Statement.{statement}
 use Rattle.darray.proofs.select.select.Tie as tie
