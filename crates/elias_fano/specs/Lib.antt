@@ -1,0 +1,3 @@
+pub mod Image
+pub mod Rows
+pub mod Sizes

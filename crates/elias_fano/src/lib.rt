@@ -1,0 +1,2 @@
+// A monotone sequence by Elias-Fano encoding, in lent words.
+pub mod sizes;
