@@ -10,7 +10,7 @@ use lib.Arith.{digits-lt, digits-div, digits-mod}
 use lib.Bits.{bitAnd, bitOr, and-block, and-high, and-mask, or-block, or-shifted, or-shifted-r, or-zero-r}
 use lib.Dec.{lit<}
 use lib.ListN.{length, getD, set, take, drop, replicate, length-replicate, take-append-drop}
-use lib.Pow.{pow-pos, pow-add, pow-mono, split, ones-split, ones-lt, low}
+use lib.Pow.{pow-pos, pow-add, pow-mono, pow-lt, split, ones-split, ones-lt, low}
 use lib.Seq.{set-split, set-at, drop-cons}
 use Rattle.errors.specs.Answer.{value, leaves}
 use Rattle.broadword.specs.Bits.{bit}
@@ -20,7 +20,7 @@ use Rattle.bit_words.proofs.Runs.{Fit}
 
 -- ---- a number above some whole words
 
-base : (b : ℕ) → 2 ^ (suc b * 64) ≡ 2 ^ (b * 64) * 2 ^ 64
+pub base : (b : ℕ) → 2 ^ (suc b * 64) ≡ 2 ^ (b * 64) * 2 ^ 64
 base b = ap (λ (e : ℕ). 2 ^ e) (suc-mul b 64) ∙ pow-add 2 (b * 64) 64
 
 -- the highest field apart
@@ -88,7 +88,7 @@ module _ (s x w : ℕ) (hs : s ≤ 64) (hw : w < 2 ^ s) where
 -- ---- what a push leaves
 
 -- two neighbours stored
-set-two : (l : List ℕ) (i a b : ℕ) → suc i < length l → set (set l i a) (suc i) b ≡ take i l ++ a ∷ b ∷ drop (suc (suc i)) l
+pub set-two : (l : List ℕ) (i a b : ℕ) → suc i < length l → set (set l i a) (suc i) b ≡ take i l ++ a ∷ b ∷ drop (suc (suc i)) l
 set-two [] i a b h = absurd (not-suc-le-zero h)
 set-two (x ∷ []) zero a b h = absurd (not-suc-le-zero (le-of-suc-le-suc h))
 set-two (x ∷ z ∷ l) zero a b h = refl
@@ -250,6 +250,9 @@ module _ (ws : List ℕ) (f len : ℕ) (h : f ≤ 1) (room : wordsFor len ≤ le
       ∙ sym (ap₂ (λ (r : List ℕ) (k : ℕ). r ++ drop k ws) (by-words 1 e) e)
 
 -- ---- one bit of a word
+
+pub one-shl : (s : ℕ) → s < 64 → (1 * 2 ^ s) % 2 ^ 64 ≡ 2 ^ s
+one-shl s h = ap (λ (y : ℕ). y % 2 ^ 64) (one-mul (2 ^ s)) ∙ mod-eq-of-lt {n = 2 ^ s} {m = 2 ^ 64} (pow-lt h)
 
 module _ (w s : ℕ) (hw : w < 2 ^ 64) (hs : s < 64) where
   abbrev j : ℕ

@@ -30,6 +30,12 @@ pub record Appendable (ws : List ℕ) (len x width : ℕ) : Type 0 where
   pub room : wordsFor (len + width) ≤ length ws
   pub clear : (len % 64 ≡ 0 → ⊥) → getD ws (len / 64) 0 / 2 ^ (len % 64) ≡ 0
 
+-- some bits, fewer than 2 ^ width, fit in the words from a place on
+pub record Overwritable (ws : List ℕ) (pos x width : ℕ) : Type 0 where
+  pub few : width ≤ 64
+  pub small : x < 2 ^ width
+  pub room : pos + width ≤ 64 * length ws
+
 -- a place in a word
 abbrev pub Within : Found → Type 0
 Within f = (t : ℕ) → f ≡ found.At t → t < 64

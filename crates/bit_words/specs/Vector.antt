@@ -47,3 +47,11 @@ putBit w i b = w - bit w i * 2 ^ i + b * 2 ^ i
 unfoldable pub appended : List ℕ → ℕ → ℕ → ℕ → List ℕ
 appended ws len x width =
     numberWords (wordsFor (len + width)) (word 64 (λ i. getD ws i 0) (wordsFor len) + x * 2 ^ len) ++ drop (wordsFor (len + width)) ws
+
+-- the words as one number, the first lowest
+unfoldable pub number : List ℕ → ℕ
+number ws = word 64 (λ i. getD ws i 0) (length ws)
+
+-- the words after the width bits from the place p on become x, which has no more bits: no other bit changes
+unfoldable pub overwrite : List ℕ → ℕ → ℕ → ℕ → List ℕ
+overwrite ws p width x = numberWords (length ws) (number ws / 2 ^ (p + width) * 2 ^ (p + width) + x * 2 ^ p + number ws % 2 ^ p)

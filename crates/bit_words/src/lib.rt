@@ -8,8 +8,8 @@ ghost use lib.ListN.{length, getD, take, drop, replicate};
 ghost use Rattle.broadword.specs.Bits.{count};
 ghost use Rattle.broadword.specs.Places.{select};
 ghost use Rattle.broadword.specs.Fields.{flag, word};
-ghost use Rattle.bit_words.specs.Vector.{bitAt, bitOver, wordsFor, invalid, wordOver, putBit, appended};
-ghost use Rattle.bit_words.specs.Inner.{Skipped, Ending, Appendable, Within, placeIn, Findable};
+ghost use Rattle.bit_words.specs.Vector.{bitAt, bitOver, wordsFor, invalid, wordOver, putBit, appended, overwrite};
+ghost use Rattle.bit_words.specs.Inner.{Skipped, Ending, Appendable, Overwritable, Within, placeIn, Findable};
 use broadword::Found;
 use broadword::popcount;
 use broadword::select_in_word_by;
@@ -230,4 +230,43 @@ pub fn append(words: &mut [u64], len: usize, x: u64, width: usize)
     if WORD_LEN - shift < width {
         words[at + 1] = x >> (WORD_LEN - shift);
     }
+}
+
+// The bit at the place pos becomes 1.
+pub fn set_one(words: &mut [u64], pos: usize)
+    requires { ⌜ pos / 64 < length (now words) ⌝ }
+    ensures { λ _. ⌜ now (words .exit) ≡ overwrite (now (words .entry)) pos 1 1 ⌝ }
+{
+    let at = pos / WORD_LEN;
+    words[at] |= 1 << (pos % WORD_LEN);
+}
+
+// The word with a one at each of the lowest places.
+fn low_mask(width: usize) -> u64
+    requires { ⌜ ((1 ≤ width) × (width ≤ 64)) ⌝ }
+    ensures { λ r. ⌜ r ≡ 2 ^ width - 1 ⌝ }
+{
+    u64::MAX >> (WORD_LEN - width)
+}
+
+// The bits from the place pos on become x, a number below 2^width; no other bit changes.
+pub fn put_bits(words: &mut [u64], pos: usize, x: u64, width: usize)
+    requires { ⌜ Overwritable (now words) pos x width ⌝ }
+    ensures { λ _. ⌜ now (words .exit) ≡ overwrite (now (words .entry)) pos width x ⌝ }
+{
+    if width == 0 {
+        return;
+    }
+    let at = pos / WORD_LEN;
+    let shift = pos % WORD_LEN;
+    let room = WORD_LEN - shift;
+    let first = words[at];
+    if width <= room {
+        words[at] = (first & !(low_mask(width) << shift)) | (x << shift);
+        return;
+    }
+    let rest = width - room;
+    let second = words[at + 1];
+    words[at] = (first & low_mask(shift)) | (x << shift);
+    words[at + 1] = ((second >> rest) << rest) | (x >> room);
 }

@@ -2,17 +2,14 @@
 -- Assumes nothing.
 use borrow.Author.Needs.{needs}
 use mathlib.Core.Path.{_≡_, sym, ap, _∙_, subst⁻¹}
-use Prim.Native.Nat.{ℕ, _-_, _*_, _%_, _^_, _<_, _≤_}
-use native.Mathlib.Nat.{mod-eq-of-lt, one-mul}
+use Prim.Native.Nat.{ℕ, _-_, _%_, _^_, _≤_}
+use native.Mathlib.Nat.{mod-eq-of-lt}
 use native.Mathlib.Omega.{arith}
 use lib.Bits.{bitAnd, and-mask}
-use lib.Pow.{pow-lt, pow-pos}
+use lib.Pow.{pow-pos}
+use Rattle.bit_words.proofs.Packed.{one-shl}
 use Rattle.bit_words.proofs.low_bits.Statement.{statement}
 use Rattle.bit_words.proofs.low_bits.Tie as tie
-
--- 1 << width, below the word's width
-one-shl : (width : ℕ) → width < 64 → (1 * 2 ^ width) % 2 ^ 64 ≡ 2 ^ width
-one-shl width h = ap (λ (y : ℕ). y % 2 ^ 64) (one-mul (2 ^ width)) ∙ mod-eq-of-lt {n = 2 ^ width} {m = 2 ^ 64} (pow-lt h)
 
 returns : tie.Need-returns
 returns c =

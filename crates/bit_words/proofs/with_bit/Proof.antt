@@ -3,14 +3,13 @@
 use borrow.Author.Needs.{needs}
 use mathlib.Core.Path.{_≡_, ap, ap₂, _∙_}
 use Prim.Native.Nat.{ℕ, _-_, _*_, _%_, _^_, _<_}
-use native.Mathlib.Nat.{mod-eq-of-lt, one-mul}
 use native.Mathlib.Omega.{arith}
 use mathlib.Core.Bool.{Bool, true, false}
 use lib.Bits.{bitAnd, bitOr}
 use lib.Dec.{lit<}
-use lib.Pow.{pow-lt, shl-exact}
+use lib.Pow.{shl-exact}
 use Rattle.broadword.specs.Fields.{flag}
-use Rattle.bit_words.proofs.Packed.{put}
+use Rattle.bit_words.proofs.Packed.{one-shl, put}
 use Rattle.bit_words.proofs.with_bit.Statement.{statement}
 use Rattle.bit_words.proofs.with_bit.Tie as tie
 
@@ -31,9 +30,8 @@ returns : tie.Need-returns
 returns c =
     let s = c .before .args .shift in
     let b = flag (c .before .args .bit) in
-    let e : (1 * 2 ^ s) % 2 ^ 64 ≡ 2 ^ s = ap (λ (y : ℕ). y % 2 ^ 64) (one-mul (2 ^ s)) ∙ mod-eq-of-lt {n = 2 ^ s} {m = 2 ^ 64} (pow-lt (c .before .pre)) in
     let f : (c .bit-word .result * 2 ^ s) % 2 ^ 64 ≡ b * 2 ^ s = ap (λ (y : ℕ). (y * 2 ^ s) % 2 ^ 64) (c .bit-word .ensures) ∙ shl-exact 1 s 64 (flag-lt (c .before .args .bit)) (omega arith) in
-    ap₂ (λ (y z : ℕ). bitOr (bitAnd (c .before .args .w) (2 ^ 64 - 1 - y)) z) e f ∙ put (c .before .args .w) s (c .before .fits .w .fits) (c .before .pre) b (flag-lt (c .before .args .bit))
+    ap₂ (λ (y z : ℕ). bitOr (bitAnd (c .before .args .w) (2 ^ 64 - 1 - y)) z) (one-shl s (c .before .pre)) f ∙ put (c .before .args .w) s (c .before .fits .w .fits) (c .before .pre) b (flag-lt (c .before .args .bit))
 
 pub with-bit-spec : {M : Type 1} → statement M
 with-bit-spec = tie.close (tie.spec shl-result bit-word-requires shl-result-2 returns)
