@@ -2,13 +2,15 @@
 use mathlib.Core.Path.{_≡_, sym, ap, ap₂, _∙_, subst}
 use mathlib.Core.List.{List}
 use mathlib.Core.Bool.{Bool}
-use Prim.Native.Nat.{ℕ, _+_, _-_, _*_, _^_, _≤_, _<_, min}
-use native.Mathlib.Nat.{le-trans, lt-of-le-of-lt}
+use Prim.Native.Nat.{ℕ, suc, _+_, _-_, _*_, _^_, _≤_, _<_, min}
+use native.Mathlib.Nat.{le-refl, le-trans, lt-of-le-of-lt, lt-of-not-le}
+use native.Mathlib.Decide.{decLe}
 use native.Mathlib.Omega.{arith}
 use lib.Dec.{leb}
 use lib.ListN.{length}
 use Rattle.errors.specs.Answer.{pick}
 use Rattle.broadword.specs.Bits.{count}
+use Rattle.broadword.proofs.Count.{count-mono}
 use Rattle.bit_words.specs.Vector.{bitOver}
 use Rattle.bit_words.proofs.Runs.{bitOver-le}
 use Rattle.darray.specs.Positions.{places, positions}
@@ -24,6 +26,18 @@ ahead-le f c j k h a = record { counted = a .counted; to-come = le-trans (a .to-
 
 pub inside-le : (f : ℕ → ℕ) (m j k : ℕ) → j ≤ k → Inside f m k → Inside f m j
 inside-le f m j k h i = record { bits = i .bits; room = i .room; few = i .few; there = lt-of-le-of-lt h (i .there) }
+
+-- positions rise with their numbers
+pub position-le : (f : ℕ → ℕ) (j k x y : ℕ) → Position f j x → Position f k y → j ≤ k → x ≤ y
+unfolding count
+position-le f j k x y p q h = by (decLe x y)
+  where
+    by : Dec (x ≤ y) → x ≤ y
+    by (yes l) = l
+    by (no l) = absurd (omega (arith, count-mono f (suc y) x (lt-of-not-le l), p .before, q .before, q .one))
+
+pub position-same : (f : ℕ → ℕ) (k x y : ℕ) → Position f k x → Position f k y → x ≡ y
+position-same f k x y p q = omega (arith, position-le f k k x y p q (le-refl k), position-le f k k y x q p (le-refl k))
 
 module _ (b : Bool) (ws : List ℕ) (len n : ℕ) (e : n ≡ count (bitOver b ws) len) where
   pub length-is : n ≡ length (positions b ws len)

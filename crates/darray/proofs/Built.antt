@@ -2,7 +2,7 @@
 use mathlib.Core.Path.{_≡_, refl, sym, ap, _∙_}
 use mathlib.Core.List.{List, _++_}
 use mathlib.Core.Bool.{Bool, true, false}
-use Prim.Native.Nat.{ℕ, _+_, _^_, _≤_, _<_}
+use Prim.Native.Nat.{ℕ, _^_, _≤_, _<_}
 use native.Mathlib.Nat.{lt-of-not-le}
 use native.Mathlib.Decide.{decLt}
 use native.Mathlib.Omega.{arith}
@@ -14,7 +14,7 @@ use Rattle.broadword.specs.Places.{select}
 use Rattle.bit_vectors.specs.Queries.{ofFound}
 use Rattle.bit_words.specs.Vector.{bitOver, invalid}
 use Rattle.darray.specs.Positions.{positions}
-use Rattle.darray.specs.Index.{blocks, lanes, overflow, indexWords}
+use Rattle.darray.specs.Index.{indexWords}
 use Rattle.darray.specs.Queries.{sizes, unmeasured, measureOf, buildOf, selectBuiltOf}
 use Rattle.darray.proofs.Cases as cases
 
@@ -93,12 +93,8 @@ module _ (ws : List ℕ) (len : ℕ) (b : Bool) (out : List ℕ) where
   front n left m = ap (take n) (m .words) ∙ take-at I (drop (length I) out) n (sym (m .number))
 
   -- how many positions are measured
-  measured-so : invalid ws len ≡ false → len < 2 ^ 63 → measureOf ws len b ≡ sizes (length (positions b ws len)) (blocks (positions b ws len)) (lanes (positions b ws len)) (length (overflow (positions b ws len) (blocks (positions b ws len))))
-  unfolding measureOf
-  measured-so h l = rw (h, lt-leb (2 ^ 63) len l)
-
   pub positions-so : (p e l o : ℕ) → invalid ws len ≡ false → len < 2 ^ 63 → sizes p e l o ≡ measureOf ws len b → p ≡ length (positions b ws len)
-  positions-so p e l o i s h = let q = h ∙ measured-so i s in let r : p ≡ length (positions b ws len) = cc in r
+  positions-so p e l o i s h = let q = h ∙ cases.measure-sizes ws len b i s in let r : p ≡ length (positions b ws len) = cc in r
 
   pub measures : (e : ℕ) → invalid ws len ≡ false → len < 2 ^ 63 → unmeasured e ≡ measureOf ws len b → ⊥
-  measures e i s h = let q = h ∙ measured-so i s in let z : _≡_ {A = ℕ} 0 1 = cc in omega arith
+  measures e i s h = let q = h ∙ cases.measure-sizes ws len b i s in let z : _≡_ {A = ℕ} 0 1 = cc in omega arith

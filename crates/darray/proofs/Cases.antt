@@ -9,8 +9,8 @@ use Rattle.errors.specs.Answer.{value, refused, leaves}
 use Rattle.broadword.specs.Fields.{flag}
 use Rattle.bit_words.specs.Vector.{invalid}
 use Rattle.darray.specs.Positions.{positions}
-use Rattle.darray.specs.Index.{blocks, indexWords}
-use Rattle.darray.specs.Queries.{unmeasured, ofMeasured, measureOf, buildOf, validateOf, same}
+use Rattle.darray.specs.Index.{blocks, lanes, overflow, indexWords}
+use Rattle.darray.specs.Queries.{sizes, unmeasured, ofMeasured, measureOf, buildOf, validateOf, same}
 use Rattle.darray.specs.Scan.{Sized}
 use Rattle.darray.specs.declared.inner.Sizes.{Sizes}
 use Rattle.darray.specs.declared.inner.Measured.the-variants as measured
@@ -25,10 +25,13 @@ module _ (ws : List ℕ) (len : ℕ) (b : Bool) where
   unfolding measureOf
   measure-2 h l = rw (h, le-leb (2 ^ 63) len l)
 
-  pub measure-ok : invalid ws len ≡ false → len < 2 ^ 63 → (s : Sizes) → Sized (positions b ws len) s → measureOf ws len b ≡ ofMeasured (measured.Sizes s)
+  pub measure-sizes : invalid ws len ≡ false → len < 2 ^ 63 → measureOf ws len b ≡ sizes (length (positions b ws len)) (blocks (positions b ws len)) (lanes (positions b ws len)) (length (overflow (positions b ws len) (blocks (positions b ws len))))
   unfolding measureOf
+  measure-sizes h l = rw (h, lt-leb (2 ^ 63) len l)
+
+  pub measure-ok : invalid ws len ≡ false → len < 2 ^ 63 → (s : Sizes) → Sized (positions b ws len) s → measureOf ws len b ≡ ofMeasured (measured.Sizes s)
   measure-ok h l s z =
-      rw (h, lt-leb (2 ^ 63) len l)
+      rw (measure-sizes h l)
       (cc (z .positions, z .entries, z .lanes, z .overflow, length-overflow (positions b ws len) (blocks (positions b ws len))))
 
   module _ (out : List ℕ) where

@@ -3,15 +3,14 @@ use mathlib.Core.Path.{_≡_, refl, sym, ap, ap₂, _∙_}
 use mathlib.Core.List.{List}
 use mathlib.Core.Bool.{Bool}
 use Prim.Native.Nat.{ℕ, _+_, _-_, _*_, _/_, _%_, _^_, _≤_, _<_}
-use native.Mathlib.Nat.{le-of-lt, le-dest, lt-of-lt-of-le, mod-lt, div-add-mod', lt-of-mul-lt-mul-right, add-zero, one-mul}
+use native.Mathlib.Nat.{le-of-lt, le-dest, lt-of-lt-of-le, mod-lt, div-add-mod', lt-of-mul-lt-mul-right, add-zero}
 use native.Mathlib.Omega.{arith}
-use lib.Dec.{lit<}
-use lib.Pow.{pow-pos, pow-mono, shl-exact}
+use lib.Pow.{pow-pos, pow-mono}
 use lib.ListN.{length, getD}
 use Rattle.broadword.specs.Bits.{bit, count, ones}
 use Rattle.broadword.specs.Places.{select}
 use Rattle.broadword.specs.declared.Found.the-variants.{At, Nothing}
-use Rattle.broadword.proofs.Count.{bit-le, bit-above, bit-mod, count-add, count-le, count-same, count-zero}
+use Rattle.broadword.proofs.Count.{bit-le, bit-above, bit-mod, count-add, count-le, count-mono, count-same, count-zero}
 use Rattle.broadword.proofs.Find.{selected, select-at, select-some}
 use Rattle.bit_words.specs.Vector.{bitOver, wordOver}
 use Rattle.bit_words.proofs.Runs.{Fit, bitOver-le, bitOver-word, count-word, count-next}
@@ -42,10 +41,6 @@ module _ (b : Bool) (ws : List ℕ) (fit : Fit ws) where
 
 pub count-few : (b : Bool) (ws : List ℕ) (n : ℕ) → count (bitOver b ws) n ≤ n
 count-few b ws n = count-le (bitOver b ws) n (bitOver-le b ws)
-
--- a power of two as a program makes it
-pub shl-one : (k : ℕ) → k < 64 → (1 * 2 ^ k) % 2 ^ 64 ≡ 2 ^ k
-shl-one k h = shl-exact 1 k 64 (lit< tt) (omega arith) ∙ one-mul (2 ^ k)
 
 -- a word before which no more than k positions stand, of more than k, is there
 pub word-below : (b : Bool) (ws : List ℕ) (i k : ℕ) → count (bitOver b ws) (i * 64) ≤ k → Inside (bitOver b ws) (length ws) k → i < length ws
@@ -80,9 +75,16 @@ position-lt f m k i n p = lt-of-lt-of-le (below f i (n .bits) (omega (arith, p .
 pub word-le : (f : ℕ → ℕ) (m k i : ℕ) → count f (i * 64) ≤ k → Inside f m k → i * 64 ≤ 2 ^ 63
 word-le f m k i h n = le-of-lt (lt-of-lt-of-le (below f (i * 64) (n .bits) (omega (arith, n .there))) (n .few))
 
+-- a position stands in a word that is there
+pub position-word : (b : Bool) (ws : List ℕ) (k p : ℕ) → Position (bitOver b ws) k p → Inside (bitOver b ws) (length ws) k → p / 64 < length ws
+position-word b ws k p q n = word-below b ws (p / 64) k (omega (arith, q .before, count-mono (bitOver b ws) (p / 64 * 64) p (omega arith))) n
+
 -- a cursor at the word of the position with the number m, which stands at p: c of the word's ones stand below it
 pub cursor-at : (b : Bool) (ws : List ℕ) → Fit ws → (m p c : ℕ) → Position (bitOver b ws) m p → c ≡ ones (wordOver b (getD ws (p / 64) 0) % 2 ^ (p % 64)) 64
     → Ahead (bitOver b ws) (record { word = p / 64; before = m - c }) m
 cursor-at b ws fit m p c q e =
     let s = count-part b ws fit p (count (bitOver b ws) (p / 64 * 64)) c refl e in
     record { counted = omega (arith, q .before); to-come = omega arith }
+
+pub below-le : (b : Bool) (ws : List ℕ) → Fit ws → (m p c : ℕ) → Position (bitOver b ws) m p → c ≡ ones (wordOver b (getD ws (p / 64) 0) % 2 ^ (p % 64)) 64 → c ≤ m
+below-le b ws fit m p c q e = omega (arith, q .before, count-part b ws fit p (count (bitOver b ws) (p / 64 * 64)) c refl e)

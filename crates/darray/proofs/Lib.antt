@@ -12,3 +12,5 @@ pub mod Built
 pub mod Cases
 pub mod Signed
 pub mod Through
+pub mod Within
+pub mod Writing

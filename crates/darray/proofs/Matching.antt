@@ -31,9 +31,11 @@ it-is-not f = record { yes = λ e. absurd (true-false (sym e)); no = λ _ a. f a
 pub decides-by : {A B : Type 0} (r : Bool) → Decides r A → (A → B) → (B → A) → Decides r B
 decides-by r d to from = record { yes = λ e. to (d .yes e); no = λ e x. d .no e (from x) }
 
-pub matches-at : (a : List ℕ) (j : ℕ) (l : List ℕ) {n n′ x x′ o o′ y y′ : ℕ} → n ≡ n′ → x ≡ x′ → o ≡ o′ → y ≡ y′ → Matches a n j x o y l → Matches a n′ j x′ o′ y′ l
-matches-at a j l {n} {n′} {x} {x′} {o} {o′} {y} {y′} p q r t m =
-    subst (λ (k : ℕ). Matches a k j x′ o′ y′ l) p (subst (λ (k : ℕ). Matches a n j k o′ y′ l) q (subst (λ (k : ℕ). Matches a n j x k y′ l) r (subst (λ (k : ℕ). Matches a n j x o k l) t m)))
+pub matches-at : (a l : List ℕ) {n n′ j j′ x x′ o o′ y y′ : ℕ} → n ≡ n′ → j ≡ j′ → x ≡ x′ → o ≡ o′ → y ≡ y′ → Matches a n j x o y l → Matches a n′ j′ x′ o′ y′ l
+matches-at a l {n} {n′} {j} {j′} {x} {x′} {o} {o′} {y} {y′} p i q r t m =
+    subst (λ (k : ℕ). Matches a k j′ x′ o′ y′ l) p
+    (subst (λ (k : ℕ). Matches a n k x′ o′ y′ l) i
+    (subst (λ (k : ℕ). Matches a n j k o′ y′ l) q (subst (λ (k : ℕ). Matches a n j x k y′ l) r (subst (λ (k : ℕ). Matches a n j x o k l) t m))))
 
 -- ---- the block j of the positions P
 
@@ -88,12 +90,12 @@ module _ (P : List ℕ) (j : ℕ) (h : j < blocks P) (a : List ℕ) (is : Shows 
 pub holds-is : (P l : List ℕ) → length l ≡ length (indexWords P) → Holds P l (blocks P) → l ≡ indexWords P
 holds-is P l e h = ext-getD 0 l (indexWords P) e (λ i g. index.holds-all P l h i (subst (λ (n : ℕ). i < n) e g))
 
-same-refl : (l : List ℕ) → same l l ≡ true
+pub same-refl : (l : List ℕ) → same l l ≡ true
 unfolding same
 same-refl [] = refl
 same-refl (x ∷ xs) = rw (eq-eqb x x refl) (same-refl xs)
 
-same-true : (l m : List ℕ) → same l m ≡ true → l ≡ m
+pub same-true : (l m : List ℕ) → same l m ≡ true → l ≡ m
 unfolding same
 same-true [] [] e = refl
 same-true [] (y ∷ ys) e = absurd (true-false (sym e))

@@ -1,6 +1,6 @@
 -- A word read as a signed number, and a negative one taken to the place that it points at. Assumes nothing.
 use borrow.Author.Tests.{le-ltb, lt-ltb, ltb-true}
-use mathlib.Core.Path.{_≡_, refl, sym, ap, _∙_, subst, subst⁻¹}
+use mathlib.Core.Path.{_≡_, refl, sym, ap, _∙_, subst⁻¹}
 use mathlib.Core.Bool.{Bool, true, false, cond}
 use Prim.Native.Nat.{ℕ, zero, suc, _+_, _-_, _^_, _≤_, _<_}
 use native.Mathlib.Nat.{zero-add, not-suc-le-zero, lt-of-not-le}

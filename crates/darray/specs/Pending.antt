@@ -1,32 +1,17 @@
--- The pending positions of a block: how they are taken from the words, and what a flush writes of them. It is what functions inside the
+-- The pending positions of a block: which of them are stored, and what a flush writes of them. It is what functions inside the
 -- crate are promised by: no public contract rests on it. Assumes nothing.
 use mathlib.Core.Path.{_≡_}
 use mathlib.Core.List.{List}
 use mathlib.Core.Bool.{Bool, true, false}
-use Prim.Native.Nat.{ℕ, zero, suc, _+_, _-_, _*_, _/_, _%_, _^_, _≤_, _<_}
+use Prim.Native.Nat.{ℕ, zero, suc, _+_, _-_, _*_, _/_, _%_, _^_, _≤_, _<_, min}
 use lib.Dec.{leb, ltb}
 use lib.ListN.{length, getD, set}
 use Rattle.errors.specs.Answer.{pick}
-use Rattle.broadword.specs.Bits.{bit, count, ones}
 use Rattle.broadword.specs.Fields.{word}
-use Rattle.broadword.specs.Places.{select}
-use Rattle.bit_words.specs.Vector.{bitOver, wordOver}
-use Rattle.darray.specs.Scan.{Position}
+use Rattle.darray.specs.Scan.{Position, Ahead, lastOf}
+use Rattle.darray.specs.declared.scan.Cursor.{Cursor}
 use Rattle.darray.specs.declared.pending.Pending.{Pending}
-use Rattle.darray.specs.declared.pending.Rest.{Rest}
-
--- the ones left of a word are its positions from the number `taken` on
-pub record Left (b : Bool) (ws : List ℕ) (r : Rest) : Type 0 where
-  pub low : count (bitOver b ws) (r .word * 64) ≤ r .taken
-  pub high : r .taken ≤ count (bitOver b ws) (r .word * 64) + ones (wordOver b (getD ws (r .word) 0)) 64
-  pub ones-left : (k : ℕ) → select (bit (r .left)) 64 k ≡ select (bit (wordOver b (getD ws (r .word) 0))) 64 (r .taken - count (bitOver b ws) (r .word * 64) + k)
-
--- the next positions were taken
-pub record Taken (b : Bool) (ws : List ℕ) (from : Rest) (size : ℕ) (a : List ℕ) (r : Rest) : Type 0 where
-  pub long : length a ≡ 1024
-  pub stored : (k : ℕ) → k < size → Position (bitOver b ws) (from .taken + k) (getD a k 0)
-  pub left : Left b ws r
-  pub taken : r .taken ≡ from .taken + size
+use Rattle.darray.specs.declared.inner.Sizes.{Sizes}
 
 -- the positions of a block that its words need: all of a wide one, else every 32nd
 abbrev pub Due : Bool → ℕ → Type 0
@@ -47,6 +32,11 @@ Rising a n = (i : ℕ) → 32 * i < n → (getD a 0 0 ≤ getD a (32 * i) 0) × 
 
 unfoldable pub blockWide : List ℕ → ℕ → Bool
 blockWide a n = leb 65536 (getD a (n - 1) 0 - getD a 0 0)
+
+-- those of the block j of n positions that its words need were stored, and the cursor is at the word of the last
+pub record Loaded (f : ℕ → ℕ) (n j : ℕ) (a : List ℕ) (c : Cursor) : Type 0 where
+  pub sampled : Sampled f (1024 * j) (min 1024 (n - 1024 * j)) (blockWide a (min 1024 (n - 1024 * j))) a
+  pub next : Ahead f c (lastOf n j)
 
 unfoldable pub blockSpill : List ℕ → ℕ → ℕ
 blockSpill a n = pick (blockWide a n) n 0
@@ -78,6 +68,13 @@ pub record Flushable (a : List ℕ) (n j lanesAt o overAt m : ℕ) : Type 0 wher
   pub entry-room : j < m
   pub lanes-room : lanesAt + (n + 127) / 128 ≤ m
   pub over-room : overAt + blockSpill a n ≤ m
+
+-- where the distances of the block j stand in the index at the place at, and where overflow positions with o before them do
+abbrev pub lanesAt : ℕ → Sizes → ℕ → ℕ
+lanesAt at s j = at + s .entries + 8 * j
+
+abbrev pub overAt : ℕ → Sizes → ℕ → ℕ
+overAt at s o = at + s .entries + (s .lanes + 3) / 4 + o
 
 -- the pending positions, none of them pending any more
 abbrev pub emptied : Pending → Pending

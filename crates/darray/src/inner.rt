@@ -2,12 +2,14 @@
 // distances of every 32nd position four to a word (subblock_inventory), and the positions of the blocks that are too wide for
 // distances of 16 bits (overflow_positions).
 //
-// Measuring and validating take time linear in the words, and look for no position between every 32nd but in a block that
-// overflows; building takes time linear in the words and the positions. None needs more memory than one block's positions.
+// Each call takes time linear in the words, and looks for no position between every 32nd but in a block that overflows, or nearly. None needs
+// more memory than one block's positions.
+//
+// `write_within` is inner: it demands the sizes that `measure` gives of the bits, and room for the index.
 ghost use mathlib.Core.Path.{_≡_};
 ghost use mathlib.Core.List.{_++_};
-ghost use Prim.Native.Nat.{_+_, _/_, _^_, _≤_, _<_};
-ghost use lib.ListN.{length, drop};
+ghost use Prim.Native.Nat.{_+_, _-_, _/_, _^_, _≤_, _<_};
+ghost use lib.ListN.{length, take, drop};
 ghost use Rattle.errors.specs.Answer.{leaves};
 ghost use Rattle.bit_words.specs.Vector.{wordsFor};
 ghost use Rattle.darray.specs.Positions.{positions};
@@ -17,17 +19,16 @@ ghost use Rattle.darray.specs.Queries.{ofMeasured, ofBuilt, ofValidated,
 ghost use Rattle.darray.specs.Scan.{Sized, Writable};
 use crate::pending::block_matches;
 use crate::pending::empty;
-use crate::pending::fill;
 use crate::pending::flush;
-use crate::pending::sample;
+use crate::pending::load;
 use crate::pending::spill;
-use crate::pending::start;
 use crate::scan::Cursor;
 use crate::scan::block_size;
 use crate::scan::count_positions;
 use crate::scan::ends;
 use crate::scan::spilled;
 use bit_words::is_invalid;
+use bit_words::words_for;
 use broadword::select_in_byte_table;
 use errors::Refusal;
 
@@ -159,18 +160,52 @@ fn write(words: &[u64], len: usize, over_one: bool, s: Sizes, out: &mut [u64])
 {
     let n = s.positions;
     let blocks = s.entries;
-    let over_start = blocks + (s.lanes + 3) / 4;
+    let table = select_in_byte_table();
     let mut p = empty();
-    let mut from = start(words, over_one);
+    let mut from = Cursor { word: 0, before: 0 };
     let mut over: usize = 0;
     let mut j: usize = 0;
     while j < blocks {
         let size = block_size(n, j);
-        let next = fill(&mut p.positions, words, over_one, from, size);
+        let next = load(&mut p.positions, &table, words, over_one, n, j, from);
         from = next;
         p.count = size;
         let more = spill(&p.positions, size);
-        p = flush(p, &mut *out, j, blocks + 8 * j, over, over_start + over);
+        p = flush(p, &mut *out, 0, s, j, over);
+        over += more;
+        j += 1;
+    }
+}
+
+// Writes it to the words that hold the bits too, from the place `at` on. The bits are the first len of the words from `first` on, and end
+// before that place.
+pub fn write_within(buf: &mut [u64], first: usize, len: usize, over_one: bool, s: Sizes, at: usize)
+    requires { ⌜ ((first + wordsFor len ≤ at) × (at ≤ length (now buf)) × Writable (positions «over_one» (take (wordsFor len) (drop first (now buf))) len) len (length (take (wordsFor len) (drop first (now buf)))) s (length (now buf) - at)) ⌝ }
+    ensures { λ _. ⌜ now (buf .exit) ≡ take at (now (buf .entry)) ++ (indexWords (positions «over_one» (take (wordsFor len) (drop first (now (buf .entry)))) len) ++ drop (length (indexWords (positions «over_one» (take (wordsFor len) (drop first (now (buf .entry)))) len))) (drop at (now (buf .entry)))) ⌝ }
+{
+    let end = first + words_for(len);
+    let n = s.positions;
+    let blocks = s.entries;
+    let table = select_in_byte_table();
+    let mut p = empty();
+    let mut from = Cursor { word: 0, before: 0 };
+    let mut over: usize = 0;
+    let mut j: usize = 0;
+    while j < blocks {
+        let size = block_size(n, j);
+        let next = load(
+            &mut p.positions,
+            &table,
+            &buf[first..end],
+            over_one,
+            n,
+            j,
+            from,
+        );
+        from = next;
+        p.count = size;
+        let more = spill(&p.positions, size);
+        p = flush(p, &mut *buf, at, s, j, over);
         over += more;
         j += 1;
     }
@@ -184,7 +219,6 @@ fn matches(words: &[u64], len: usize, over_one: bool, s: Sizes, index: &[u64]) -
 {
     let n = s.positions;
     let blocks = s.entries;
-    let over_start = blocks + (s.lanes + 3) / 4;
     let table = select_in_byte_table();
     let mut a = [0u64; 1024];
     let mut at = Cursor { word: 0, before: 0 };
@@ -192,14 +226,12 @@ fn matches(words: &[u64], len: usize, over_one: bool, s: Sizes, index: &[u64]) -
     let mut j: usize = 0;
     while j < blocks {
         let size = block_size(n, j);
-        let e = ends(&table, words, over_one, n, j, at);
-        sample(&mut a, &table, words, over_one, e, BLOCK_LEN * j, size);
-        if !block_matches(&a, size, index, j, blocks + 8 * j, over, over_start + over) {
+        let next = load(&mut a, &table, words, over_one, n, j, at);
+        at = next;
+        if !block_matches(&a, size, index, 0, s, j, over) {
             return false;
         }
         over += spill(&a, size);
-        let next = e.next;
-        at = next;
         j += 1;
     }
     true

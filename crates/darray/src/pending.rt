@@ -1,18 +1,25 @@
-// The pending positions of a block: they are collected word by word, and a flush writes them to the index and empties them.
+// The pending positions of a block: those that its words need are stored, and a flush writes them to the index and empties them.
 ghost use mathlib.Core.Path.{_≡_};
+ghost use mathlib.Core.Bool.{true};
 ghost use Prim.Native.Nat.{ℕ, _+_, _-_, _*_, _/_, _^_, _≤_, _<_};
 ghost use lib.Dec.{leb};
 ghost use lib.ListN.{length, getD, replicate};
 ghost use Rattle.errors.specs.Answer.{pick};
 ghost use Rattle.broadword.specs.Bits.{bit};
 ghost use Rattle.broadword.specs.Places.{select, SelectInByte};
-ghost use Rattle.broadword.specs.declared.Found.the-variants.{At};
 ghost use Rattle.bit_words.specs.Vector.{bitOver};
-ghost use Rattle.darray.specs.Scan.{Position, Ahead, Inside};
-ghost use Rattle.darray.specs.Pending.{Left, Taken, Sampled, Rising, blockWide, blockSpill, blockLane, blockLaneWord, put, flushed, Flushable, emptied, Decides, Reads, Matches};
+ghost use Rattle.darray.specs.Scan.{Position, Ahead, Inside, lastOf};
+ghost use Rattle.darray.specs.Pending.{Sampled, Loaded, Rising, blockWide, blockSpill, blockLane, blockLaneWord, put, flushed, Flushable, lanesAt, overAt, emptied, Decides, Reads, Matches};
+use crate::inner::BLOCK_LEN;
 use crate::inner::SUBBLOCK_LEN;
+use crate::inner::Sizes;
+use crate::scan::Cursor;
 use crate::scan::Span;
+use crate::scan::block_size;
+use crate::scan::cursor_at;
+use crate::scan::ends;
 use crate::scan::find;
+use crate::scan::is_far;
 use crate::scan::is_wide;
 use bit_words::WORD_LEN;
 use bit_words::word_over;
@@ -24,13 +31,6 @@ pub struct Pending {
     pub count: usize,
 }
 
-// A word, the positions of it that are left, and how many were taken so far.
-pub struct Rest {
-    pub word: usize,
-    pub left: u64,
-    pub taken: usize,
-}
-
 // The word without its lowest one.
 fn without_lowest(w: u64) -> u64
     requires { ⌜ (w ≡ 0 → ⊥) ⌝ }
@@ -39,31 +39,14 @@ fn without_lowest(w: u64) -> u64
     w & (w - 1)
 }
 
-// All positions are left.
-pub fn start(words: &[u64], over_one: bool) -> Rest
-    ensures { λ r. ⌜ ((r .taken ≡ 0) × (0 < length (now (words .entry)) → Left «over_one» (now (words .entry)) r)) ⌝ }
+// Stores the `size` positions from the number k on, the first of which stands at `first`.
+fn fill(a: &mut [u64; 1024], words: &[u64], over_one: bool, first: usize, k: usize, size: usize)
+    requires { ⌜ ((length (now a) ≡ 1024) × (size ≤ 1024) × (0 < size) × Position (bitOver «over_one» (now words)) k first × Inside (bitOver «over_one» (now words)) (length (now words)) (k + (size - 1))) ⌝ }
+    ensures { λ _. ⌜ Sampled (bitOver «over_one» (now (words .entry))) k size true (now (a .exit)) ⌝ }
 {
-    if words.len() == 0 {
-        return Rest {
-            word: 0,
-            left: 0,
-            taken: 0,
-        };
-    }
-    Rest {
-        word: 0,
-        left: word_over(words, 0, over_one),
-        taken: 0,
-    }
-}
-
-// Stores the next `size` positions.
-pub fn fill(a: &mut [u64; 1024], words: &[u64], over_one: bool, from: Rest, size: usize) -> Rest
-    requires { ⌜ ((length (now a) ≡ 1024) × (size ≤ 1024) × (0 < size) × Left «over_one» (now words) from × Inside (bitOver «over_one» (now words)) (length (now words)) (from .taken + (size - 1))) ⌝ }
-    ensures { λ r. ⌜ Taken «over_one» (now (words .entry)) from size (now (a .exit)) r ⌝ }
-{
-    let mut word = from.word;
-    let mut left = from.left;
+    let shift = first % WORD_LEN;
+    let mut word = first / WORD_LEN;
+    let mut left = (word_over(words, word, over_one) >> shift) << shift;
     let mut c: usize = 0;
     while c < size {
         if left == 0 {
@@ -74,11 +57,6 @@ pub fn fill(a: &mut [u64; 1024], words: &[u64], over_one: bool, from: Rest, size
             left = without_lowest(left);
             c += 1;
         }
-    }
-    Rest {
-        word,
-        left,
-        taken: from.taken + size,
     }
 }
 
@@ -95,7 +73,7 @@ fn stride(first: u64, last: u64) -> usize
 }
 
 // Stores those positions, and the last, of the `size` from the number k on, whose ends are e.
-pub fn sample(
+fn sample(
     a: &mut [u64; 1024],
     table: &[u8; 2048],
     words: &[u64],
@@ -119,6 +97,35 @@ pub fn sample(
     }
     let last = size - 1;
     a[last] = e.last;
+}
+
+// Stores the positions of a block of n that its words need; a cursor at the word of the last comes back. Where the block's end is far off, it
+// overflows, or nearly, and all its positions are stored one after the other.
+pub fn load(
+    a: &mut [u64; 1024],
+    table: &[u8; 2048],
+    words: &[u64],
+    over_one: bool,
+    n: usize,
+    block: usize,
+    from: Cursor,
+) -> Cursor
+    requires { ⌜ ((length (now a) ≡ 1024) × SelectInByte (now table) × Ahead (bitOver «over_one» (now words)) from (1024 * block) × Inside (bitOver «over_one» (now words)) (length (now words)) (lastOf n block) × (1024 * block < n)) ⌝ }
+    ensures { λ r. ⌜ Loaded (bitOver «over_one» (now (words .entry))) n block (now (a .exit)) r ⌝ }
+{
+    let k = BLOCK_LEN * block;
+    let size = block_size(n, block);
+    let last = size - 1;
+    let h = find(table, words, over_one, from, k);
+    let at = h.cursor;
+    if is_far(words, over_one, at, k + last) {
+        fill(&mut *a, words, over_one, h.at as usize, k, size);
+        return cursor_at(words, over_one, k + last, a[last] as usize);
+    }
+    let e = ends(table, words, over_one, n, block, at);
+    sample(a, table, words, over_one, e, k, size);
+    let next = e.next;
+    next
 }
 
 // None is pending.
@@ -206,24 +213,24 @@ fn put_positions(a: &[u64; 1024], n: usize, out: &mut [u64], at: usize)
     }
 }
 
-// Writes the block: its entry, its distances from the place lanes_at on, and where it overflows its positions from the place
-// over_at on, with `over` overflow positions before them. The pending positions come back emptied.
-pub fn flush(
-    p: Pending,
-    out: &mut [u64],
-    block: usize,
-    lanes_at: usize,
-    over: usize,
-    over_at: usize,
-) -> Pending
-    requires { ⌜ Flushable (p .positions) (p .count) block «lanes_at» over «over_at» (length (now out)) ⌝ }
-    ensures { λ r. ⌜ ((r ≡ emptied p) × (now (out .exit) ≡ flushed (p .positions) (p .count) block «lanes_at» over «over_at» (now (out .entry)))) ⌝ }
+// Writes the block to the index whose sizes are s, from the place `at` on: its entry, its distances, and where it overflows its positions, with
+// `over` overflow positions before them. The pending positions come back emptied.
+pub fn flush(p: Pending, out: &mut [u64], at: usize, s: Sizes, block: usize, over: usize) -> Pending
+    requires { ⌜ ((s .lanes + 3 < 2 ^ 64) × Flushable (p .positions) (p .count) (at + block) (lanesAt at s block) over (overAt at s over) (length (now out))) ⌝ }
+    ensures { λ r. ⌜ ((r ≡ emptied p) × (now (out .exit) ≡ flushed (p .positions) (p .count) (at + block) (lanesAt at s block) over (overAt at s over) (now (out .entry)))) ⌝ }
 {
     let n = p.count;
+    let lanes_start = at + s.entries;
+    let over_start = lanes_start + (s.lanes + 3) / 4;
     let wide = overflows(&p.positions, n);
-    out[block] = entry(p.positions[0], wide, over);
-    put_lanes(&p.positions, n, wide, &mut *out, lanes_at);
-    put_positions(&p.positions, spill(&p.positions, n), &mut *out, over_at);
+    out[at + block] = entry(p.positions[0], wide, over);
+    put_lanes(&p.positions, n, wide, &mut *out, lanes_start + 8 * block);
+    put_positions(
+        &p.positions,
+        spill(&p.positions, n),
+        &mut *out,
+        over_start + over,
+    );
     let mut q = p;
     q.count = 0;
     q
@@ -265,20 +272,22 @@ pub fn block_matches(
     a: &[u64; 1024],
     n: usize,
     index: &[u64],
+    at: usize,
+    s: Sizes,
     block: usize,
-    lanes_at: usize,
     over: usize,
-    over_at: usize,
 ) -> bool
-    requires { ⌜ Flushable (now a) n block «lanes_at» over «over_at» (length (now index)) ⌝ }
-    ensures { λ r. ⌜ Decides r (Matches (now (a .entry)) n block «lanes_at» over «over_at» (now (index .entry))) ⌝ }
+    requires { ⌜ ((s .lanes + 3 < 2 ^ 64) × Flushable (now a) n (at + block) (lanesAt at s block) over (overAt at s over) (length (now index))) ⌝ }
+    ensures { λ r. ⌜ Decides r (Matches (now (a .entry)) n (at + block) (lanesAt at s block) over (overAt at s over) (now (index .entry))) ⌝ }
 {
+    let lanes_start = at + s.entries;
+    let over_start = lanes_start + (s.lanes + 3) / 4;
     let wide = overflows(a, n);
-    if index[block] != entry(a[0], wide, over) {
+    if index[at + block] != entry(a[0], wide, over) {
         return false;
     }
-    if !lanes_match(a, n, wide, index, lanes_at) {
+    if !lanes_match(a, n, wide, index, lanes_start + 8 * block) {
         return false;
     }
-    positions_match(a, spill(a, n), index, over_at)
+    positions_match(a, spill(a, n), index, over_start + over)
 }

@@ -1,14 +1,14 @@
 // Positions found word by word: a cursor moves over the words by their counts of ones, so that a position takes the time of the
 // words between, and those between it and the last one found are not visited.
 ghost use mathlib.Core.Path.{_≡_};
-ghost use Prim.Native.Nat.{ℕ, _+_, _-_, _*_, _/_, _^_, _≤_, _<_, min};
+ghost use Prim.Native.Nat.{_+_, _-_, _*_, _/_, _≤_, _<_, min};
 ghost use lib.Dec.{leb};
 ghost use lib.ListN.{length, getD};
 ghost use Rattle.errors.specs.Answer.{pick};
-ghost use Rattle.broadword.specs.Bits.{bit, count, ones};
+ghost use Rattle.broadword.specs.Bits.{count, ones};
 ghost use Rattle.broadword.specs.Places.{SelectInByte};
 ghost use Rattle.bit_words.specs.Vector.{wordsFor, bitOver, wordOver};
-ghost use Rattle.darray.specs.Scan.{lastOf, Ahead, Inside, Hits, Spans};
+ghost use Rattle.darray.specs.Scan.{Position, lastOf, Ahead, Inside, Hits, Spans};
 use crate::inner::BLOCK_LEN;
 use crate::inner::MAX_IN_BLOCK_DISTANCE;
 use bit_words::WORD_LEN;
@@ -16,6 +16,9 @@ use bit_words::word_over;
 use broadword::Found;
 use broadword::popcount;
 use broadword::select_in_word_by;
+
+// A block that is spread over as many words overflows, or nearly.
+const FAR: usize = 1024;
 
 // A word, and how many positions stand before it.
 pub struct Cursor {
@@ -70,14 +73,14 @@ fn count_eight(words: &[u64], i: usize, over_one: bool) -> usize
     n
 }
 
-// A cursor less than eight words before the word of the position with the number k, or less than eight before the end.
-fn leap(words: &[u64], over_one: bool, from: Cursor, k: usize) -> Cursor
-    requires { ⌜ (Ahead (bitOver «over_one» (now words)) from k × Inside (bitOver «over_one» (now words)) (length (now words)) k) ⌝ }
+// A cursor less than eight words before the word of the position with the number k, or less than eight before the word `end`.
+fn leap(words: &[u64], over_one: bool, from: Cursor, k: usize, end: usize) -> Cursor
+    requires { ⌜ (Ahead (bitOver «over_one» (now words)) from k × Inside (bitOver «over_one» (now words)) (length (now words)) k × (end ≤ length (now words))) ⌝ }
     ensures { λ r. ⌜ Ahead (bitOver «over_one» (now (words .entry))) r k ⌝ }
 {
     let mut word = from.word;
     let mut before = from.before;
-    while word + 8 <= words.len() {
+    while word + 8 <= end {
         let n = count_eight(words, word, over_one);
         if k - before < n {
             break;
@@ -88,12 +91,24 @@ fn leap(words: &[u64], over_one: bool, from: Cursor, k: usize) -> Cursor
     Cursor { word, before }
 }
 
+// Whether the position with the number k lies `FAR` words past the cursor or farther. No answer is wrong: it only picks the faster way.
+pub fn is_far(words: &[u64], over_one: bool, from: Cursor, k: usize) -> bool
+    requires { ⌜ (Ahead (bitOver «over_one» (now words)) from k × Inside (bitOver «over_one» (now words)) (length (now words)) k) ⌝ }
+{
+    let end = from.word + FAR;
+    if words.len() < end {
+        return false;
+    }
+    let near = leap(words, over_one, from, k, end);
+    near.word == end
+}
+
 // A cursor at the word of the position with the number k.
 pub fn advance(words: &[u64], over_one: bool, from: Cursor, k: usize) -> Cursor
     requires { ⌜ (Ahead (bitOver «over_one» (now words)) from k × Inside (bitOver «over_one» (now words)) (length (now words)) k) ⌝ }
     ensures { λ r. ⌜ (Ahead (bitOver «over_one» (now (words .entry))) r k × (r .word < length (now (words .entry))) × (k < r .before + ones (wordOver «over_one» (getD (now (words .entry)) (r .word) 0)) 64)) ⌝ }
 {
-    let near = leap(words, over_one, from, k);
+    let near = leap(words, over_one, from, k, words.len());
     let mut word = near.word;
     let mut before = near.before;
     let mut n = popcount(word_over(words, word, over_one));
@@ -118,6 +133,19 @@ pub fn find(table: &[u8; 2048], words: &[u64], over_one: bool, from: Cursor, k: 
             cursor: c,
         },
         Found::Nothing => Hit { at: 0, cursor: c },
+    }
+}
+
+// A cursor at the word of the position with the number k, which stands at `at`.
+pub fn cursor_at(words: &[u64], over_one: bool, k: usize, at: usize) -> Cursor
+    requires { ⌜ (Position (bitOver «over_one» (now words)) k at × Inside (bitOver «over_one» (now words)) (length (now words)) k) ⌝ }
+    ensures { λ r. ⌜ Ahead (bitOver «over_one» (now (words .entry))) r k ⌝ }
+{
+    let word = at / WORD_LEN;
+    let below = word_over(words, word, over_one) % (1u64 << (at % WORD_LEN));
+    Cursor {
+        word,
+        before: k - popcount(below),
     }
 }
 

@@ -1,7 +1,6 @@
 // Select through the index, in constant time. These functions are inner: each demands the index of the bits that it is lent, how many positions
 // the index has, and the table of `broadword::select_in_byte_table`.
 ghost use mathlib.Core.Path.{_≡_};
-ghost use mathlib.Core.Bool.{true, false};
 ghost use Prim.Native.Nat.{_+_, _*_, _/_, _%_, _^_, _<_};
 ghost use lib.Bits.{bitAnd};
 ghost use lib.ListN.{length, getD};

@@ -3,6 +3,7 @@
 use borrow.Author.Needs.{needs}
 use mathlib.Core.Path.{_≡_, ap, _∙_, subst}
 use Prim.Native.Nat.{ℕ, _+_, _-_, _*_, _≤_, _<_}
+use native.Mathlib.Nat.{le-refl}
 use native.Mathlib.Omega.{arith}
 use lib.ListN.{length, getD}
 use Rattle.broadword.specs.Bits.{count, ones}
@@ -19,7 +20,7 @@ abbrev μ-loop : tie.MeasureT-loop
 μ-loop words over-one k word₀ before₀ n₀ word before n = length words - word
 
 leap-requires : tie.Need-leap-requires Inv-loop μ-loop
-leap-requires c κs = c .before .pre
+leap-requires c κs = (c .before .pre .0, c .before .pre .1, le-refl (length (c .before .args .words .now)))
 
 -- the first word is there
 start : (c : tie.After-leap Inv-loop μ-loop) → c .leap .result .word < length (c .before .before .args .words .now)

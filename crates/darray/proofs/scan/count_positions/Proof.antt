@@ -8,6 +8,7 @@ use lib.ListN.{getD}
 use lib.Pow.{pow-pos}
 use Rattle.broadword.specs.Bits.{count, ones}
 use Rattle.bit_words.specs.Vector.{bitOver}
+use Rattle.bit_words.proofs.Packed.{one-shl}
 use Rattle.darray.proofs.Counts as scan
 use Rattle.darray.proofs.scan.count_positions.Statement.{statement}
 use Rattle.darray.proofs.scan.count_positions.Tie as tie
@@ -64,7 +65,7 @@ shl-popcount c = omega arith
 
 rem-popcount : tie.Need-rem-popcount Inv-loop μ-loop
 rem-popcount c =
-    let h = scan.shl-one (c .before .before .before .before .before .args .len % 64) (omega arith) in
+    let h = one-shl (c .before .before .before .before .before .args .len % 64) (omega arith) in
     let p = pow-pos (c .before .before .before .before .before .args .len % 64) in
     omega arith
 
@@ -79,7 +80,7 @@ last c =
     let e : l .i * 64 ≡ a .len / 64 * 64 = omega arith in
     scan.count-part (a .over-one) (a .words .now) (λ i. c .before .before .before .before .before .shared-slice-known .given i .fits) (a .len) (l .n) (c .popcount2 .result)
     (l .inv .1 ∙ ap (count (bitOver (a .over-one) (a .words .now))) e)
-    (c .popcount2 .ensures ∙ ap₂ (λ (w m : ℕ). ones (w % m) 64) (c .before .word-over2 .ensures) (scan.shl-one (a .len % 64) (omega arith)))
+    (c .popcount2 .ensures ∙ ap₂ (λ (w m : ℕ). ones (w % m) 64) (c .before .word-over2 .ensures) (one-shl (a .len % 64) (omega arith)))
 
 add-result : tie.Need-add-result Inv-loop μ-loop
 add-result c =

@@ -3,7 +3,6 @@
 use mathlib.Core.Path.{_≡_, ap, _∙_, subst}
 use Prim.Native.Nat.{ℕ, _+_, _-_, _*_, _≤_}
 use native.Mathlib.Omega.{arith}
-use lib.ListN.{length}
 use Rattle.broadword.specs.Bits.{count}
 use Rattle.bit_words.specs.Vector.{bitOver}
 use Rattle.darray.proofs.Counts as counts
@@ -11,10 +10,10 @@ use Rattle.darray.proofs.scan.leap.Statement.{statement}
 use Rattle.darray.proofs.scan.leap.Tie as tie
 
 abbrev Inv-loop : tie.InvT-loop
-Inv-loop words over-one k word₀ before₀ word before = (before ≡ count (bitOver over-one words) (word * 64)) × (before ≤ k)
+Inv-loop words over-one k end word₀ before₀ word before = (before ≡ count (bitOver over-one words) (word * 64)) × (before ≤ k)
 
 abbrev μ-loop : tie.MeasureT-loop
-μ-loop words over-one k word₀ before₀ word before = length words - word
+μ-loop words over-one k end word₀ before₀ word before = end - word
 
 loop-holds : tie.Need-loop-holds Inv-loop μ-loop
 loop-holds c = (c .before .pre .0 .counted, c .before .pre .0 .to-come)
@@ -25,7 +24,7 @@ add-loop c =
     omega (arith, counts.word-le _ _ _ (c .loop .word) (subst (λ (x : ℕ). x ≤ c .before .before .args .k) (l .0) (l .1)) (c .before .before .pre .1))
 
 count-eight-requires : tie.Need-count-eight-requires Inv-loop μ-loop
-count-eight-requires c κs = omega arith
+count-eight-requires c κs = omega (arith, c .loop-test .taken, c .before .before .before .pre .2)
 
 sub-if1 : tie.Need-sub-if1 Inv-loop μ-loop
 sub-if1 c = omega arith
