@@ -1,2 +1,0 @@
-// A monotone sequence by Elias-Fano encoding, in lent words.
-pub mod sizes;

@@ -1,0 +1,82 @@
+-- Bounds on a record's sizes: l is below 64, u / 2 ^ l below 2 n, and so the high length at most 3 n + 1. Assumes nothing.
+use mathlib.Core.Path.{_≡_, refl, ap, _∙_, subst, subst⁻¹}
+use Prim.Native.Nat.{ℕ, _+_, _*_, _/_, _^_, _≤_, _<_}
+use native.Mathlib.Nat.{mul-le-mul, lt-of-le-of-lt, lt-of-lt-of-le, div-le-self, div-lt-iff-lt-mul, one-mul, lt-of-not-le}
+use native.Mathlib.Decide.{decLt}
+use native.Mathlib.Omega.{arith}
+use lib.Dec.{lit<}
+use mir.Syntax.{w64}
+use mir.Val.{Fits}
+use lib.Pow.{pow-pos, pow-add, pow-mono}
+use Rattle.broadword.specs.Bits.{bit}
+use Rattle.broadword.specs.Places.{last, orElse}
+use Rattle.broadword.specs.declared.Found.{Found}
+use Rattle.broadword.specs.declared.Found.the-variants.{At, Nothing}
+use Rattle.broadword.proofs.Count.{bit-le, bit-above, bit-shift}
+use Rattle.broadword.proofs.Find.{last-is, last-nothing}
+use Rattle.bit_words.specs.Vector.{wordsFor}
+use Rattle.bit_words.proofs.Last.{not-one, no-bits}
+use Rattle.elias_fano_words.specs.Sizes.{lowLen, highLen}
+
+-- a number is below the power after its highest one
+below-next : (q i : ℕ) → q < 2 ^ 64 → last (bit q) 64 ≡ At i → q < 2 ^ (i + 1)
+below-next q i h e =
+    let r = last-is (bit q) 64 i e in
+    let w : ℕ = q / 2 ^ (i + 1) in
+    let z : w ≡ 0 = no-bits w (lt-of-le-of-lt (div-le-self q (2 ^ (i + 1))) h) (λ j l. bit-shift q (i + 1) j ∙ high j (decLt (i + 1 + j) 64)) in
+    subst (λ (y : ℕ). q < y) (one-mul (2 ^ (i + 1))) (div-lt-iff-lt-mul (pow-pos (i + 1)) .0 (subst⁻¹ (λ (y : ℕ). y < 1) z (lit< tt)))
+  where
+    high : (j : ℕ) → Dec (i + 1 + j < 64) → bit q (i + 1 + j) ≡ 0
+    high j (yes l) = not-one (bit q (i + 1 + j)) (bit-le q (i + 1 + j)) (last-is (bit q) 64 i e .after (i + 1 + j) (omega arith) l)
+    high j (no g) = bit-above q (i + 1 + j) (lt-of-lt-of-le h (pow-mono {i = 64} (omega (arith, lt-of-not-le g))))
+
+-- one that has none is 0
+none-zero : (q : ℕ) → q < 2 ^ 64 → last (bit q) 64 ≡ Nothing → q ≡ 0
+none-zero q h e = no-bits q h (λ j l. not-one (bit q j) (bit-le q j) (last-nothing (bit q) 64 e j l))
+
+module _ (u n : ℕ) (hu : u < 2 ^ 64) (hn : 0 < n) where
+  quotient-lt : u / n < 2 ^ 64
+  quotient-lt = lt-of-le-of-lt (div-le-self u n) hu
+
+  -- l is below 64, and the quotient below 2 ^ (l + 1)
+  low-by : (a : Found) → last (bit (u / n)) 64 ≡ a → (orElse a 0 < 64) × (u / n < 2 ^ (orElse a 0 + 1))
+  low-by (At i) e = (last-is (bit (u / n)) 64 i e .within, below-next (u / n) i quotient-lt e)
+  low-by Nothing e = let z = none-zero (u / n) quotient-lt e in (lit< tt, omega arith)
+
+  low-facts : (lowLen u n < 64) × (u / n < 2 ^ (lowLen u n + 1))
+  unfolding lowLen
+  low-facts = low-by (last (bit (u / n)) 64) refl
+
+  pub low-lt : lowLen u n < 64
+  low-lt = low-facts .0
+
+  pub high-lt : u / 2 ^ lowLen u n < 2 * n
+  high-lt =
+      let l : ℕ = lowLen u n in
+      let a : u < 2 ^ (l + 1) * n = div-lt-iff-lt-mul hn .0 (low-facts .1) in
+      let e : 2 ^ (l + 1) * n ≡ 2 * n * 2 ^ l = (let p : 2 ^ (l + 1) ≡ 2 ^ l * 2 = pow-add 2 l 1 in ap (λ (y : ℕ). y * n) p ∙ (let d : (P : ℕ) → P * 2 * n ≡ 2 * n * P = λ P. omega arith in d (2 ^ l))) in
+      div-lt-iff-lt-mul (pow-pos l) .1 (subst (λ (y : ℕ). u < y) e a)
+
+  pub high-le : highLen u n ≤ 3 * n + 1
+  unfolding highLen
+  high-le = let h = high-lt in omega arith
+
+  -- the sums and products of a program stay in range
+  module _ (few : n ≤ 16777216) (l : ℕ) (e : l ≡ lowLen u n) where
+    pub high-fits : Fits w64 (n + 2 + u / 2 ^ l)
+    high-fits = record { fits = let h : u / 2 ^ l < 2 * n = subst⁻¹ (λ (k : ℕ). u / 2 ^ k < 2 * n) e high-lt in omega arith }
+
+    pub low-product : n * l ≤ 16777216 * 63
+    low-product = let h = low-lt in let k : l ≤ 63 = omega arith in mul-le-mul few k
+
+    pub low-fits : Fits w64 (n * l)
+    low-fits = record { fits = let p = low-product in omega arith }
+
+    high-bound : n + 2 + u / 2 ^ l ≤ 3 * 16777216 + 1
+    high-bound = let h : u / 2 ^ l < 2 * n = subst⁻¹ (λ (k : ℕ). u / 2 ^ k < 2 * n) e high-lt in omega arith
+
+    pub sum-fits : (a : ℕ) → a ≡ wordsFor (n + 2 + u / 2 ^ l) → Fits w64 (6 + a)
+    sum-fits a ea = record { fits = let h = high-bound in omega arith }
+
+    pub sums-fit : (a b : ℕ) → a ≡ wordsFor (n + 2 + u / 2 ^ l) → b ≡ wordsFor (n * l) → Fits w64 (6 + a + b)
+    sums-fit a b ea eb = record { fits = let h = high-bound in let p = low-product in omega arith }

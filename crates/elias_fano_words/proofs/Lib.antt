@@ -1,0 +1,15 @@
+pub mod Apart
+pub mod Bitwise
+pub mod Bounds
+pub mod Decided
+pub mod Decode
+pub mod Encode
+pub mod Holds
+pub mod LastTime
+pub mod Marks
+pub mod Ones
+pub mod Pairs
+pub mod Reading
+pub mod Rising
+pub mod Unset
+pub mod Valid

@@ -1,0 +1,124 @@
+-- The bits from a place on, read from its word and the one after it. Assumes nothing.
+use mathlib.Core.Path.{_≡_, sym, ap, ap₂, _∙_, subst⁻¹}
+use mathlib.Core.List.{List}
+use Prim.Native.Nat.{ℕ, suc, _+_, _-_, _*_, _/_, _%_, _^_, _≤_, _<_}
+use native.Mathlib.Nat.{div-add-mod', le-dest, lt-of-not-le, mul-add-mod-self-right, suc-mul}
+use native.Mathlib.Decide.{decLt}
+use native.Mathlib.Omega.{arith}
+use lib.Arith.{digits-mod}
+use lib.Bits.{bitAnd, bitOr, and-mask}
+use lib.Dec.{leb}
+use lib.ListN.{length, getD}
+use lib.Pow.{pow-pos, pow-add, mod-mod-pow}
+use Rattle.broadword.specs.Bits.{bit}
+use Rattle.broadword.specs.Fields.{word}
+use Rattle.broadword.proofs.Count.{bit-mod}
+use Rattle.broadword.proofs.Fields.{digit-word, word-same}
+use Rattle.bit_words.specs.Vector.{bitAt}
+use Rattle.bit_words.proofs.Runs.{Fit, bit-digit-1, bitAt-le, bitAt-word}
+use Rattle.bit_words.proofs.Windows.{number-bits, two-words, window-or}
+use Rattle.bit_words.proofs.Packed.{one-shl}
+use Rattle.elias_fano_words.specs.Checks.{Held}
+use Rattle.elias_fano_words.specs.Ordered.{lowBits}
+
+-- the low part of a product's first factor gives its low part
+mod-mul : (a b M : ℕ) → (a % M * b) % M ≡ (a * b) % M
+mod-mul a b M =
+    let d : (q r : ℕ) → (q * M + r) * b ≡ q * b * M + r * b = λ q r. omega arith in
+    sym (ap (λ (x : ℕ). (x * b) % M) (sym (div-add-mod' a M)) ∙ ap (λ (x : ℕ). x % M) (d (a / M) (a % M)) ∙ mul-add-mod-self-right (a / M * b) M (a % M * b))
+
+-- a shift by 64 - s in two steps, neither of which is by 64
+two-shifts : (v s : ℕ) → s < 64 → ((v * 2) % 2 ^ 64 * 2 ^ (63 - s)) % 2 ^ 64 ≡ (v * 2 ^ (64 - s)) % 2 ^ 64
+two-shifts v s h =
+    let p : 2 ^ (64 - s) ≡ 2 * 2 ^ (63 - s) = ap (λ (x : ℕ). 2 ^ x) (let e : 64 - s ≡ 1 + (63 - s) = omega arith in e) ∙ pow-add 2 1 (63 - s) in
+    let d : (P : ℕ) → v * 2 * P ≡ v * (2 * P) = λ P. omega arith in
+    mod-mul (v * 2) (2 ^ (63 - s)) (2 ^ 64) ∙ ap (λ (x : ℕ). x % 2 ^ 64) (d (2 ^ (63 - s)) ∙ ap (λ (x : ℕ). v * x) (sym p))
+
+-- the low bits of a low part
+mod-low : (x k n : ℕ) → n ≤ k → x % 2 ^ k % 2 ^ n ≡ x % 2 ^ n
+mod-low x k n h = let d = le-dest h in ap (λ (j : ℕ). x % 2 ^ j % 2 ^ n) (let e : k ≡ d .0 + n = omega (arith, d .1) in e) ∙ mod-mod-pow x (d .0) n
+
+module _ (ws : List ℕ) (fit : Fit ws) (pos next : ℕ) (after : pos / 64 + 1 < length ws → next ≡ pos / 64 + 1) where
+  abbrev w : ℕ
+  w = getD ws (pos / 64) 0
+
+  abbrev v : ℕ
+  v = getD ws next 0
+
+  abbrev s : ℕ
+  s = pos % 64
+
+  -- the bits that the words have are right, whatever was read for the word after the last
+  pub bits-from : (n : ℕ) → n ≤ 64 → pos + n ≤ length ws * 64 → bitOr (w / 2 ^ s) (((v * 2) % 2 ^ 64 * 2 ^ (63 - s)) % 2 ^ 64) % 2 ^ n ≡ word 1 (λ i. bitAt ws (pos + i)) n
+  bits-from n h l =
+      let N : ℕ = v * 2 ^ 64 + w in
+      ap (λ (x : ℕ). bitOr (w / 2 ^ s) x % 2 ^ n) (two-shifts v s (omega arith))
+      ∙ ap (λ (x : ℕ). x % 2 ^ n) (window-or s (omega arith) v w (fit (pos / 64)))
+      ∙ mod-low (N / 2 ^ s) 64 n h ∙ sym (number-bits N s n)
+      ∙ word-same 1 (λ i. bit N (s + i)) (λ i. bitAt ws (pos + i)) n (λ i g. by i g (decLt (s + i) 64))
+    where
+      by : (i : ℕ) → i < n → Dec (s + i < 64) → bit (v * 2 ^ 64 + w) (s + i) ≡ bitAt ws (pos + i)
+      by i g (yes q) =
+          let e : pos / 64 * 64 + (s + i) ≡ pos + i = omega arith in
+          sym (bit-mod (v * 2 ^ 64 + w) 64 (s + i) q) ∙ ap (λ (x : ℕ). bit x (s + i)) (digits-mod v {m = 2 ^ 64} {r = w} (fit (pos / 64)))
+          ∙ sym (bitAt-word ws (pos / 64) (s + i) q) ∙ ap (bitAt ws) e
+      by i g (no q) =
+          let e : pos / 64 * 64 + (s + i) ≡ pos + i = omega arith in
+          let f : next ≡ pos / 64 + 1 = after (omega (arith, lt-of-not-le q)) in
+          ap (λ (x : ℕ). bit (getD ws x 0 * 2 ^ 64 + w) (s + i)) f ∙ sym (two-words ws (pos / 64) (s + i) (fit (pos / 64)) (omega arith)) ∙ ap (bitAt ws) e
+
+-- ---- the low bits of two times, one after the other
+
+-- the low bits of v are those of the words from the place pos on
+abbrev From : List ℕ → ℕ → ℕ → Type 0
+From ws pos v = (n : ℕ) → n ≤ 64 → pos + n ≤ length ws * 64 → v % 2 ^ n ≡ word 1 (λ i. bitAt ws (pos + i)) n
+
+-- a bit of a number that is made of bits
+pub number-bit : (f : ℕ → ℕ) (n i : ℕ) → ((j : ℕ) → f j ≤ 1) → i < n → bit (word 1 f n) i ≡ f i
+number-bit f n i h l = sym (bit-digit-1 (word 1 f n) i) ∙ digit-word 1 f n (λ j _. omega (arith, h j)) i l
+
+-- no low bits
+pub low-none : (low : List ℕ) (l k : ℕ) → l ≡ 0 → lowBits l low k ≡ 0
+unfolding word
+low-none low l k z = ap (λ (n : ℕ). lowBits n low k) z
+
+-- l ones, as a program makes them
+abbrev mask : ℕ → ℕ
+mask l = (1 * 2 ^ l) % 2 ^ 64 - 1
+
+masked : (l x : ℕ) → l < 64 → bitAnd x (mask l) ≡ x % 2 ^ l
+masked l x h = ap (λ (p : ℕ). bitAnd x (p - 1)) (one-shl l h) ∙ and-mask x l
+
+pub mask-fits : (l : ℕ) → l < 64 → 1 ≤ (1 * 2 ^ l) % 2 ^ 64
+mask-fits l h = subst⁻¹ (λ (x : ℕ). 1 ≤ x) (one-shl l h) (pow-pos l)
+
+pub low-masked : (low : List ℕ) (l k v : ℕ) → l < 64 → k * l + l ≤ length low * 64 → From low (k * l) v → bitAnd v (mask l) ≡ lowBits l low k
+low-masked low l k v few h g = masked l v few ∙ g l (omega arith) h
+
+module _ (low : List ℕ) (l k : ℕ) (few : l < 64) (held : Held l low (k + 2)) where
+  next-at : (i : ℕ) → k * l + l + i ≡ suc k * l + i
+  next-at i = ap (λ (x : ℕ). x + i) (sym (suc-mul k l))
+
+  first-low : (v : ℕ) → From low (k * l) v → bitAnd v (mask l) ≡ lowBits l low k
+  first-low v = low-masked low l k v few (omega (arith, held .room))
+
+  next-low : (v : ℕ) → From low (k * l + l) v → bitAnd v (mask l) ≡ lowBits l low (suc k)
+  next-low v h =
+      masked l v few ∙ h l (omega arith) (omega (arith, held .room))
+      ∙ word-same 1 (λ i. bitAt low (k * l + l + i)) (λ i. bitAt low (suc k * l + i)) l (λ i _. ap (bitAt low) (next-at i))
+
+  second-low : (v : ℕ) → l ≤ 32 → From low (k * l) v → bitAnd (v / 2 ^ l) (mask l) ≡ lowBits l low (suc k)
+  second-low v s h =
+      let f : ℕ → ℕ = λ i. bitAt low (k * l + i) in
+      let e : v % 2 ^ (l + l) ≡ word 1 f (l + l) = h (l + l) (omega arith) (omega (arith, held .room)) in
+      masked l (v / 2 ^ l) few ∙ sym (number-bits v l l)
+      ∙ word-same 1 (λ i. bit v (l + i)) (λ i. bitAt low (suc k * l + i)) l (λ i g.
+      let q : k * l + (l + i) ≡ k * l + l + i = omega arith in
+      sym (bit-mod v (l + l) (l + i) (omega arith)) ∙ ap (λ (x : ℕ). bit x (l + i)) e
+      ∙ number-bit f (l + l) (l + i) (λ j. bitAt-le low (k * l + j)) (omega arith) ∙ ap (bitAt low) (q ∙ next-at i))
+
+  pub rises-one : (v : ℕ) → l ≤ 32 → From low (k * l) v → leb (bitAnd v (mask l)) (bitAnd (v / 2 ^ l) (mask l)) ≡ leb (lowBits l low k) (lowBits l low (suc k))
+  rises-one v s h = ap₂ leb (first-low v h) (second-low v s h)
+
+  pub rises-two : (v x : ℕ) → From low (k * l) v → From low (k * l + l) x → leb (bitAnd v (mask l)) (bitAnd x (mask l)) ≡ leb (lowBits l low k) (lowBits l low (suc k))
+  rises-two v x h g = ap₂ leb (first-low v h) (next-low x g)
