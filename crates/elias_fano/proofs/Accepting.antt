@@ -1,0 +1,205 @@
+-- An image is accepted exactly if its header, its bits and its indexes are as the functions of the crate find them. Assumes nothing.
+use mathlib.Core.Path.{_≡_, refl, sym, ap, ap₂, _∙_, subst}
+use mathlib.Core.List.{List, [], _∷_, _++_, append-assoc}
+use mathlib.Core.Bool.{Bool, true, false, _&&_}
+use Prim.Native.Nat.{ℕ, _+_, _-_, _*_, _≤_}
+use native.Mathlib.Omega.{arith}
+use borrow.Author.Tests.{eqb-true, eqb-false}
+use lib.Dec.{eqb}
+use lib.ListN.{length, getD, take, drop, length-drop, take-append-drop}
+use lib.Seq.{length-take-le, take-take, drop-drop, take-at}
+use Rattle.errors.specs.Answer.{pick}
+use Rattle.broadword.specs.Fields.{flag}
+use Rattle.bit_words.specs.Vector.{wordsFor, numberWords, invalid}
+use Rattle.bit_words.proofs.Runs.{Fit}
+use Rattle.darray.specs.Index.{indexWords}
+use Rattle.darray.specs.Positions.{positions}
+use Rattle.darray.specs.Queries.{same}
+use Rattle.darray.proofs.Matching.{same-refl}
+use Rattle.elias_fano_words.specs.Sizes.{lowLen, highLen}
+use Rattle.elias_fano_words.specs.Image.{lowNumber, spilled, highWords, lowWords, highPositions, image}
+use Rattle.elias_fano_words.specs.Times.{rising, bitWords, timesIn, holds}
+use Rattle.elias_fano_words.proofs.Decode.{times-of, length-high}
+use Rattle.elias_fano_words.proofs.Holds.{fit-held, length-held}
+use Rattle.elias_fano_words.proofs.Rising.{true-and}
+use Rattle.elias_fano_words.proofs.Valid.{valid-high}
+use Rattle.elias_fano.specs.Accept.{fit, universe, declared, pushed, ranked, times, accepted, indexLen}
+use Rattle.elias_fano.specs.Opening.{highOf, onesIn, zerosIn, highIn, bitsIn, Headed, Indexes}
+use Rattle.elias_fano.proofs.Images.{Fits, of-fits, is-fit, is-image}
+use Rattle.elias_fano.proofs.Parts.{index-length, ones-many, zeros-many, headed, holds-in, indexes-in}
+
+-- what is found of an image
+pub record Found (i : List ℕ) : Type 0 where
+  pub head : Headed i
+  pub bits : holds (universe i) (declared i) (pushed i) (bitsIn i) ≡ true
+  pub indexed : Indexes i
+
+-- ---- of an accepted one
+
+of-image : (u n : ℕ) (c : Bool) (T : List ℕ) → Fits u n T → Found (image u n c T)
+unfolding image
+of-image u n c T f = record { head = headed u n c T f; bits = holds-in u n c T f; indexed = indexes-in u n c T f }
+
+pub found : (i : List ℕ) → accepted i ≡ true → Found i
+found i h = subst Found (sym (is-image i h)) (of-image (universe i) (declared i) (ranked i) (times i) (is-fit i h))
+
+-- ---- and of one that is then accepted
+
+six-of : (i : List ℕ) → 6 ≤ length i → take 6 i ≡ getD i 0 0 ∷ getD i 1 0 ∷ getD i 2 0 ∷ getD i 3 0 ∷ getD i 4 0 ∷ getD i 5 0 ∷ []
+six-of [] h = absurd (omega arith)
+six-of (a ∷ []) h = absurd (omega arith)
+six-of (a ∷ b ∷ []) h = absurd (omega arith)
+six-of (a ∷ b ∷ c ∷ []) h = absurd (omega arith)
+six-of (a ∷ b ∷ c ∷ d ∷ []) h = absurd (omega arith)
+six-of (a ∷ b ∷ c ∷ d ∷ e ∷ []) h = absurd (omega arith)
+six-of (a ∷ b ∷ c ∷ d ∷ e ∷ f ∷ i) h = refl
+
+flag-eqb : (w : ℕ) → w ≤ 1 → (b : Bool) → eqb w 1 ≡ b → w ≡ flag b
+flag-eqb w h true e = eqb-true w 1 e
+flag-eqb w h false e = let ne = eqb-false w 1 e in omega arith
+
+-- the overflow of an index is known by its length
+over-is : (k k′ x y l : ℕ) → l ≡ indexLen k x → l ≡ indexLen k′ y → k ≡ k′ → x ≡ y
+over-is k k′ x y l p q e =
+    let r : indexLen k y ≡ indexLen k′ y = ap (λ (z : ℕ). indexLen z y) e in
+    let s : l ≡ indexLen k y = q ∙ sym r in
+    omega arith
+
+module _ (i : List ℕ) (head : Headed i) (bits : holds (universe i) (declared i) (pushed i) (bitsIn i) ≡ true) where
+  abbrev u : ℕ
+  u = universe i
+
+  abbrev n : ℕ
+  n = declared i
+
+  abbrev m : ℕ
+  m = pushed i
+
+  abbrev c : Bool
+  c = ranked i
+
+  abbrev hw : ℕ
+  hw = wordsFor (highLen u n)
+
+  abbrev lw : ℕ
+  lw = wordsFor (m * lowLen u n)
+
+  abbrev ws : List ℕ
+  ws = bitsIn i
+
+  abbrev pub T : List ℕ
+  T = timesIn u n m ws
+
+  long : zerosIn i ≤ length i
+  long = let l = head .long in omega arith
+
+  length-ws : length ws ≡ hw + lw
+  length-ws = length-take-le (hw + lw) (drop 6 i) (let l = length-drop 6 i in let z = long in omega arith)
+
+  abbrev high : List ℕ
+  high = take hw ws
+
+  abbrev low : List ℕ
+  low = drop hw ws
+
+  length-high′ : length high ≡ hw
+  length-high′ = length-take-le hw ws (let l = length-ws in omega arith)
+
+  length-low : length low ≡ lw
+  length-low = length-drop hw ws ∙ (let l = length-ws in omega arith)
+
+  split : high ++ low ≡ ws
+  split = take-append-drop hw ws
+
+  held : (rising u 0 (timesIn u n m (high ++ low)) ≡ true) × (high ++ low ≡ bitWords u n (length low) (timesIn u n m (high ++ low)))
+  held = fit-held u n m high low length-high′ (ap (holds u n m) split ∙ bits)
+
+  pub rises : rising u 0 T ≡ true
+  rises = sym (ap (λ (w : List ℕ). rising u 0 (timesIn u n m w)) split) ∙ held .0
+
+  pub is-bits : ws ≡ bitWords u n lw T
+  is-bits = sym split ∙ held .1 ∙ ap₂ (λ (k : ℕ) (w : List ℕ). bitWords u n k (timesIn u n m w)) length-low split
+
+  pub length-T : length T ≡ m
+  length-T = sym (ap (λ (w : List ℕ). length (timesIn u n m w)) split) ∙ length-held u n m high low length-high′
+
+  pub few : length T ≤ n
+  few = let h = head .few in let e = length-T in omega arith
+
+  -- the high words
+  pub high-is : highIn i ≡ highWords u n T
+  unfolding bitWords
+  high-is =
+      sym (take-take hw (hw + lw) (drop 6 i) (omega arith)) ∙ ap (take hw) is-bits
+      ∙ take-at (highWords u n T) (numberWords lw (lowNumber (lowLen u n) T)) hw (length-high u n T)
+
+  module _ (indexed : Indexes i) where
+    abbrev ones : List ℕ
+    ones = indexWords (highPositions u n true T)
+
+    abbrev zeros : List ℕ
+    zeros = pick c (indexWords (highPositions u n false T)) []
+
+    ones-is : take (zerosIn i - onesIn i) (drop (onesIn i) i) ≡ ones
+    ones-is = indexed .ones ∙ ap (λ (h : List ℕ). indexWords (positions true h (highLen u n))) high-is
+
+    zeros-is : drop (zerosIn i) i ≡ zeros
+    zeros-is = indexed .zeros ∙ ap (λ (h : List ℕ). pick c (indexWords (positions false h (highLen u n))) []) high-is
+
+    tail-is : drop (hw + lw) (drop 6 i) ≡ ones ++ zeros
+    tail-is =
+        drop-drop (hw + lw) 6 i ∙ ap (λ (k : ℕ). drop k i) (let e : 6 + (hw + lw) ≡ onesIn i = omega arith in e)
+        ∙ sym (take-append-drop (zerosIn i - onesIn i) (drop (onesIn i) i))
+        ∙ ap₂ (λ (a b : List ℕ). a ++ b) ones-is (drop-drop (zerosIn i - onesIn i) (onesIn i) i ∙ ap (λ (k : ℕ). drop k i) (let e : onesIn i + (zerosIn i - onesIn i) ≡ zerosIn i = omega arith in e) ∙ zeros-is)
+
+    body-is : drop 6 i ≡ bitWords u n lw T ++ (ones ++ zeros)
+    body-is = sym (take-append-drop (hw + lw) (drop 6 i)) ∙ ap₂ (λ (a b : List ℕ). a ++ b) is-bits tail-is
+
+    times-is : times i ≡ T
+    unfolding times
+    times-is =
+        ap (timesIn u n m) body-is ∙ ap (λ (k : ℕ). timesIn u n k (bitWords u n lw T ++ (ones ++ zeros))) (sym length-T)
+        ∙ times-of u n T rises few lw (ones ++ zeros) (let e = ap (λ (k : ℕ). wordsFor (k * lowLen u n)) length-T in omega arith)
+
+    -- the header's counts
+    length-ones : length ones ≡ indexLen m (getD i 4 0)
+    length-ones =
+        sym (ap length ones-is) ∙ length-take-le (zerosIn i - onesIn i) (drop (onesIn i) i) (let l = length-drop (onesIn i) i in let z = long in omega arith) ∙ omega arith
+
+    fourth : getD i 4 0 ≡ spilled (highPositions u n true T)
+    fourth = over-is m (length (highPositions u n true T)) (getD i 4 0) (spilled (highPositions u n true T)) (length ones) length-ones (index-length (highPositions u n true T)) (sym (ones-many u n T rises few ∙ length-T))
+
+    length-zeros : length (drop (zerosIn i) i) ≡ pick c (indexLen (highOf i - m) (getD i 5 0)) 0
+    length-zeros = length-drop (zerosIn i) i ∙ (let l = head .long in omega arith)
+
+    fifth-by : (b : Bool) → (b ≡ false → getD i 5 0 ≡ 0) → length (pick b (indexWords (highPositions u n false T)) []) ≡ pick b (indexLen (highOf i - m) (getD i 5 0)) 0 → getD i 5 0 ≡ pick b (spilled (highPositions u n false T)) 0
+    fifth-by true z e =
+        over-is (highOf i - m) (length (highPositions u n false T)) (getD i 5 0) (spilled (highPositions u n false T)) (length (indexWords (highPositions u n false T))) e (index-length (highPositions u n false T))
+        (sym (zeros-many u n T rises few ∙ ap (λ (k : ℕ). highLen u n - k) length-T))
+    fifth-by false z e = z refl
+
+    fifth : getD i 5 0 ≡ pick c (spilled (highPositions u n false T)) 0
+    fifth = fifth-by c (head .none) (sym (ap length zeros-is) ∙ length-zeros)
+
+    header-is : take 6 i ≡ u ∷ n ∷ length T ∷ flag c ∷ spilled (highPositions u n true T) ∷ pick c (spilled (highPositions u n false T)) 0 ∷ []
+    header-is =
+        six-of i (head .six)
+        ∙ (λ x. u ∷ n ∷ sym length-T x ∷ flag-eqb (getD i 3 0) (head .choice) c refl x ∷ fourth x ∷ fifth x ∷ [])
+
+    image-is : i ≡ image u n c T
+    unfolding image bitWords lowWords
+    image-is =
+        let low : List ℕ = numberWords lw (lowNumber (lowLen u n) T) in
+        sym (take-append-drop 6 i) ∙ ap₂ (λ (a b : List ℕ). a ++ b) header-is (body-is ∙ append-assoc (highWords u n T) low (ones ++ zeros))
+        ∙ ap (λ (k : ℕ). (u ∷ n ∷ length T ∷ flag c ∷ spilled (highPositions u n true T) ∷ pick c (spilled (highPositions u n false T)) 0 ∷ []) ++ (highWords u n T ++ (numberWords (wordsFor (k * lowLen u n)) (lowNumber (lowLen u n) T) ++ (ones ++ zeros)))) (sym length-T)
+
+    pub accepts : Fit i → accepted i ≡ true
+    unfolding accepted
+    accepts fits =
+        ap (λ (S : List ℕ). fit u n S && same i (image u n c S)) times-is
+        ∙ true-and (fit u n T) (same i (image u n c T)) (of-fits u n T (record { small = fits 0; some = head .some; most = head .most; few = few; rises = rises }))
+        (ap (same i) (sym image-is) ∙ same-refl i)
+
+-- the high words have no padding
+pub valid-part : (i : List ℕ) → Headed i → holds (universe i) (declared i) (pushed i) (bitsIn i) ≡ true → invalid (highIn i) (highOf i) ≡ false
+valid-part i h b = ap (λ (w : List ℕ). invalid w (highOf i)) (high-is i h b) ∙ valid-high (universe i) (declared i) (timesIn (universe i) (declared i) (pushed i) (bitsIn i)) (rises i h b) (few i h b)

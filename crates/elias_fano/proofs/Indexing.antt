@@ -1,0 +1,83 @@
+-- What a validation of an index says, and what it takes for both indexes of an image. Assumes nothing.
+use mathlib.Core.Path.{_≡_, refl, sym, ap, _∙_}
+use mathlib.Core.List.{List, []}
+use mathlib.Core.Bool.{Bool, true, false}
+use Prim.Native.Nat.{ℕ, _-_, _^_, _<_}
+use native.Mathlib.Omega.{arith}
+use lib.ListN.{take, drop}
+use Rattle.errors.specs.Answer.{value, refused, pick}
+use Rattle.errors.specs.Refusal.{numberOf}
+use Rattle.errors.specs.declared.Refusal.{Refusal}
+use Rattle.broadword.specs.Fields.{flag}
+use Rattle.bit_words.specs.Vector.{invalid}
+use Rattle.darray.specs.Index.{indexWords}
+use Rattle.darray.specs.Pending.{Decides}
+use Rattle.darray.specs.Positions.{positions}
+use Rattle.darray.specs.Queries.{same, ofValidated, validateOf}
+use Rattle.darray.specs.declared.inner.Validated.{Validated}
+use Rattle.darray.specs.declared.inner.Validated.the-variants as validated
+use Rattle.darray.proofs.Cases.{validate-ok}
+use Rattle.darray.proofs.Matching.{same-refl, same-true}
+use Rattle.elias_fano.specs.Accept.{ranked}
+use Rattle.elias_fano.specs.Opening.{highOf, onesIn, zerosIn, highIn, Indexes}
+
+true-false : true ≡ false → ⊥
+true-false e = let z : _≡_ {A = ℕ} 0 1 = cc in omega arith
+
+value-inj : (a b : ℕ) → value a ≡ value b → a ≡ b
+value-inj a b e = cc
+
+flag-inj : (a b : Bool) → flag a ≡ flag b → a ≡ b
+flag-inj true true e = refl
+flag-inj true false e = let z : _≡_ {A = ℕ} 1 0 = e in absurd (omega arith)
+flag-inj false true e = let z : _≡_ {A = ℕ} 0 1 = e in absurd (omega arith)
+flag-inj false false e = refl
+
+refused-value : (a b : ℕ) → refused a ≡ value b → ⊥
+refused-value a b e = let z : _≡_ {A = ℕ} 0 1 = cc in omega arith
+
+module _ (ws : List ℕ) (len : ℕ) (b : Bool) (index : List ℕ) (ok : invalid ws len ≡ false) (few : len < 2 ^ 63) (r : Validated) (er : ofValidated r ≡ validateOf ws len b index) where
+  abbrev I : List ℕ
+  I = indexWords (positions b ws len)
+
+  pub is-same : (x : Bool) → r ≡ validated.Is x → Decides x (index ≡ I)
+  is-same x e =
+      let s : x ≡ same index I = flag-inj x (same index I) (value-inj (flag x) (flag (same index I)) (sym (ap ofValidated e) ∙ er ∙ validate-ok ws len b index ok few)) in
+      record {
+        yes = λ (t : x ≡ true). same-true index I (sym s ∙ t);
+        no = λ (t : x ≡ false) (q : index ≡ I). true-false (sym (ap (same index) (sym q) ∙ same-refl index) ∙ sym s ∙ t);
+      }
+
+  pub not-refused : (k : Refusal) → r ≡ validated.Refused k → ⊥
+  not-refused k e = refused-value (numberOf k) (flag (same index I)) (sym (ap ofValidated e) ∙ er ∙ validate-ok ws len b index ok few)
+
+-- ---- both indexes of an image
+
+module _ (i high ones zeros : List ℕ) (len : ℕ)
+    (eh : high ≡ highIn i) (el : len ≡ highOf i) (eo : ones ≡ take (zerosIn i - onesIn i) (drop (onesIn i) i)) (ez : zeros ≡ drop (zerosIn i) i) where
+  moved : (b : Bool) → indexWords (positions b high len) ≡ indexWords (positions b (highIn i) (highOf i))
+  moved b = λ x. indexWords (positions b (eh x) (el x))
+
+  -- the first is another
+  pub other-ones : (x : Bool) → Decides x (ones ≡ indexWords (positions true high len)) → x ≡ false → Decides false (Indexes i)
+  other-ones x d e = record { yes = λ t. absurd (true-false (sym t)); no = λ _ (s : Indexes i). d .no e (eo ∙ s .ones ∙ sym (moved true)) }
+
+  first-is : (x : Bool) → Decides x (ones ≡ indexWords (positions true high len)) → x ≡ true → take (zerosIn i - onesIn i) (drop (onesIn i) i) ≡ indexWords (positions true (highIn i) (highOf i))
+  first-is x d e = sym eo ∙ d .yes e ∙ moved true
+
+  picked : (b : Bool) → ranked i ≡ b → pick (ranked i) (indexWords (positions false (highIn i) (highOf i))) [] ≡ pick b (indexWords (positions false (highIn i) (highOf i))) []
+  picked b e = ap (λ (x : Bool). pick x (indexWords (positions false (highIn i) (highOf i))) []) e
+
+  -- it is right, and the second decides
+  pub then-zeros : (x y : Bool) → Decides x (ones ≡ indexWords (positions true high len)) → x ≡ true → ranked i ≡ true → Decides y (zeros ≡ indexWords (positions false high len)) → Decides y (Indexes i)
+  then-zeros x y d e c f = record {
+    yes = λ t. record { ones = first-is x d e; zeros = sym ez ∙ f .yes t ∙ moved false ∙ sym (picked true c) };
+    no = λ t (s : Indexes i). f .no t (ez ∙ s .zeros ∙ picked true c ∙ sym (moved false));
+  }
+
+  -- or there is no second
+  pub no-second : (x : Bool) → Decides x (ones ≡ indexWords (positions true high len)) → x ≡ true → ranked i ≡ false → drop (zerosIn i) i ≡ [] → Decides true (Indexes i)
+  no-second x d e c n = record {
+    yes = λ _. record { ones = first-is x d e; zeros = n ∙ sym (picked false c) };
+    no = λ t. absurd (true-false t);
+  }

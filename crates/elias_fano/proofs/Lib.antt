@@ -1,0 +1,14 @@
+pub mod Accepting
+pub mod Answers
+pub mod Cases
+pub mod Filing
+pub mod Finished
+pub mod Heading
+pub mod Images
+pub mod Indexing
+pub mod Intact
+pub mod Limits
+pub mod Parts
+pub mod Planning
+pub mod Selecting
+pub mod Standing

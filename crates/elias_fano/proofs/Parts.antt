@@ -1,0 +1,198 @@
+-- The parts of the image of a list: how long each is, and where it stands. Assumes nothing.
+use mathlib.Core.Path.{_≡_, refl, sym, ap, ap₂, _∙_, subst}
+use mathlib.Core.List.{List, [], _++_, append-assoc}
+use mathlib.Core.Bool.{Bool, true, false}
+use Prim.Native.Nat.{ℕ, zero, suc, _+_, _-_, _*_, _≤_}
+use native.Mathlib.Nat.{le-refl}
+use native.Mathlib.Omega.{arith}
+use lib.ListN.{length, take, drop, length-append}
+use lib.Seq.{take-at, drop-at, drop-append-add}
+use Rattle.errors.specs.Answer.{pick}
+use Rattle.broadword.specs.Bits.{count}
+use Rattle.broadword.specs.Fields.{flag}
+use Rattle.broadword.proofs.Count.{count-same}
+use Rattle.bit_words.specs.Vector.{bitAt, bitOver, wordsFor, numberWords}
+use Rattle.bit_words.proofs.Overwrite.{length-numberWords}
+use Rattle.bit_words.proofs.Runs.{bitAt-le, bitOver-le}
+use Rattle.darray.specs.Index.{blocks, lanes, laneWords, indexWords}
+use Rattle.darray.specs.Positions.{positions}
+use Rattle.darray.proofs.Index.{length-overflow, length-index, before-le}
+use Rattle.darray.proofs.Positions.{length-places}
+use Rattle.elias_fano_words.specs.Sizes.{lowLen, highLen}
+use Rattle.elias_fano_words.specs.Image.{lowNumber, spilled, highWords, lowWords, highPositions, image}
+use Rattle.elias_fano_words.specs.Times.{rising, bitWords, holds}
+use Rattle.elias_fano_words.proofs.Decode.{count-high, length-high}
+use Rattle.elias_fano_words.proofs.Holds.{holds-words}
+use Rattle.elias_fano.specs.Accept.{ranked, indexLen}
+use Rattle.elias_fano.specs.Opening.{onesIn, zerosIn, endIn, highIn, bitsIn, Headed, Indexes}
+use Rattle.elias_fano.proofs.Images.{Fits, image-body, image-ranked}
+
+-- ---- an index
+
+pub index-length : (P : List ℕ) → length (indexWords P) ≡ indexLen (length P) (spilled P)
+unfolding blocks lanes laneWords
+index-length P = length-index P ∙ ap (λ (x : ℕ). blocks P + laneWords P + x) (sym (length-overflow P (blocks P)))
+
+pub spilled-le : (P : List ℕ) → spilled P ≤ length P
+spilled-le P = subst (λ (x : ℕ). x ≤ length P) (sym (length-overflow P (blocks P))) (before-le P (blocks P))
+
+-- ones and zeros are all bits
+both : (ws : List ℕ) (n : ℕ) → count (bitOver true ws) n + count (bitOver false ws) n ≡ n
+unfolding count bitOver
+both ws zero = refl
+both ws (suc n) = let ih = both ws n in let h = bitAt-le ws n in omega arith
+
+pub ones-are : (ws : List ℕ) (n : ℕ) → count (bitOver true ws) n ≡ count (bitAt ws) n
+unfolding bitOver
+ones-are ws n = count-same (bitOver true ws) (bitAt ws) n (λ i _. refl)
+
+module _ (u n : ℕ) (T : List ℕ) (r : rising u 0 T ≡ true) (few : length T ≤ n) where
+  pub ones-many : length (highPositions u n true T) ≡ length T
+  ones-many = length-places (bitOver true (highWords u n T)) (bitOver-le true (highWords u n T)) (highLen u n) ∙ ones-are (highWords u n T) (highLen u n) ∙ count-high u n T r few
+
+  pub zeros-many : length (highPositions u n false T) ≡ highLen u n - length T
+  zeros-many =
+      let a = length-places (bitOver false (highWords u n T)) (bitOver-le false (highWords u n T)) (highLen u n) in
+      let b = both (highWords u n T) (highLen u n) in
+      let d = ones-are (highWords u n T) (highLen u n) ∙ count-high u n T r few in
+      a ∙ omega arith
+
+-- ---- the parts
+
+length-pick : (c : Bool) (A : List ℕ) → length (pick c A []) ≡ pick c (length A) 0
+length-pick true A = refl
+length-pick false A = refl
+
+flag-le : (c : Bool) → flag c ≤ 1
+flag-le true = omega arith
+flag-le false = omega arith
+
+none-picked : (c : Bool) (x : ℕ) → c ≡ false → pick c x 0 ≡ 0
+none-picked c x e = rw e
+
+pick-same : (c : Bool) (a b : ℕ) → a ≡ b → pick c a 0 ≡ pick c b 0
+pick-same c a b e = ap (λ (x : ℕ). pick c x 0) e
+
+module _ (u n : ℕ) (c : Bool) (T : List ℕ) (f : Fits u n T) where
+  abbrev I : List ℕ
+  I = image u n c T
+
+  abbrev hw : ℕ
+  hw = wordsFor (highLen u n)
+
+  abbrev lw : ℕ
+  lw = wordsFor (length T * lowLen u n)
+
+  abbrev ones : List ℕ
+  ones = indexWords (highPositions u n true T)
+
+  abbrev zeros : List ℕ
+  zeros = pick c (indexWords (highPositions u n false T)) []
+
+  abbrev bits : List ℕ
+  bits = bitWords u n lw T
+
+  length-bits : length bits ≡ hw + lw
+  unfolding bitWords
+  length-bits = length-append (highWords u n T) (numberWords lw (lowNumber (lowLen u n) T)) ∙ ap₂ (λ (a b : ℕ). a + b) (length-high u n T) (length-numberWords lw (lowNumber (lowLen u n) T))
+
+  length-ones : length ones ≡ indexLen (length T) (spilled (highPositions u n true T))
+  length-ones = index-length (highPositions u n true T) ∙ ap (λ (k : ℕ). indexLen k (spilled (highPositions u n true T))) (ones-many u n T (f .rises) (f .few))
+
+  length-zeros : length zeros ≡ pick c (indexLen (highLen u n - length T) (pick c (spilled (highPositions u n false T)) 0)) 0
+  length-zeros = length-pick c (indexWords (highPositions u n false T)) ∙ by c
+    where
+      P : List ℕ
+      P = highPositions u n false T
+
+      by : (c : Bool) → pick c (length (indexWords (highPositions u n false T))) 0 ≡ pick c (indexLen (highLen u n - length T) (pick c (spilled (highPositions u n false T)) 0)) 0
+      by true = index-length (highPositions u n false T) ∙ ap (λ (k : ℕ). indexLen k (spilled (highPositions u n false T))) (zeros-many u n T (f .rises) (f .few))
+      by false = refl
+
+  -- the words after the header
+  image-parts : drop 6 I ≡ bits ++ (ones ++ zeros)
+  image-parts = image-body u n c T
+
+  image-split : I ≡ take 6 I ++ (bits ++ (ones ++ zeros))
+  unfolding image bitWords lowWords
+  image-split = ap (λ (r : List ℕ). take 6 I ++ r) image-parts
+
+  six-words : length (take 6 I) ≡ 6
+  unfolding image
+  six-words = refl
+
+  length-image : length I ≡ 6 + (length bits + (length ones + length zeros))
+  length-image =
+      ap length image-split ∙ length-append (take 6 I) (bits ++ (ones ++ zeros))
+      ∙ ap₂ (λ (a b : ℕ). a + b) six-words (length-append bits (ones ++ zeros) ∙ ap (λ (x : ℕ). length bits + x) (length-append ones zeros))
+
+  -- ---- what the header gives
+
+  ends : 6 + (length bits + (length ones + length zeros)) ≡ endIn I
+  unfolding image
+  ends =
+      let a = length-bits in
+      let b = length-ones in
+      let d = length-zeros in
+      let e = ap (λ (x : Bool). pick x (indexLen (highLen u n - length T) (pick c (spilled (highPositions u n false T)) 0)) 0) (image-ranked u n c T) in
+      omega arith
+
+  pub headed : Headed I
+  unfolding image
+  headed = record {
+    six = let l = length-image in omega arith;
+    some = f .some;
+    most = f .most;
+    few = f .few;
+    choice = flag-le c;
+    none = λ (e : ranked I ≡ false). none-picked c (spilled (highPositions u n false T)) (sym (image-ranked u n c T) ∙ e);
+    long = length-image ∙ ends;
+  }
+
+  pub bits-in : bitsIn I ≡ bits
+  unfolding image
+  bits-in = ap (take (hw + lw)) image-parts ∙ take-at bits (ones ++ zeros) (hw + lw) length-bits
+
+  pub high-in : highIn I ≡ highWords u n T
+  unfolding image bitWords
+  high-in =
+      let low : List ℕ = numberWords lw (lowNumber (lowLen u n) T) in
+      ap (take hw) (image-parts ∙ append-assoc (highWords u n T) low (ones ++ zeros)) ∙ take-at (highWords u n T) (low ++ (ones ++ zeros)) hw (length-high u n T)
+
+  pub holds-in : holds u n (length T) (bitsIn I) ≡ true
+  holds-in = ap (holds u n (length T)) bits-in ∙ holds-words u n T (f .rises) (f .few) lw (le-refl lw)
+
+  rest-in : drop (6 + (hw + lw)) I ≡ ones ++ zeros
+  unfolding image
+  rest-in =
+      ap (drop (6 + (hw + lw))) image-split ∙ drop-append-add (take 6 I) (bits ++ (ones ++ zeros)) (hw + lw)
+      ∙ drop-at bits (ones ++ zeros) (hw + lw) length-bits
+
+  tail-in : drop (6 + (hw + lw) + length ones) I ≡ zeros
+  unfolding image
+  tail-in =
+      ap (drop (6 + (hw + lw) + length ones)) image-split
+      ∙ ap (λ (k : ℕ). drop k (take 6 I ++ (bits ++ (ones ++ zeros)))) (let b = length-bits in let e : 6 + (hw + lw) + length ones ≡ 6 + (length bits + length ones) = omega arith in e)
+      ∙ drop-append-add (take 6 I) (bits ++ (ones ++ zeros)) (length bits + length ones)
+      ∙ drop-append-add bits (ones ++ zeros) (length ones) ∙ drop-at ones zeros (length ones) refl
+
+  pub indexes-in : Indexes I
+  unfolding image
+  indexes-in =
+      let b = length-ones in
+      let p : List ℕ → List ℕ = λ h. indexWords (positions true h (highLen u n)) in
+      record {
+        ones = ap₂ (λ (k : ℕ) (w : List ℕ). take k w) (let e : zerosIn I - onesIn I ≡ length ones = omega arith in e) (ap (λ (k : ℕ). drop k I) (let e : onesIn I ≡ 6 + (hw + lw) = omega arith in e) ∙ rest-in)
+            ∙ take-at ones zeros (length ones) refl ∙ ap p (sym high-in);
+        zeros = ap (λ (k : ℕ). drop k I) (let e : zerosIn I ≡ 6 + (hw + lw) + length ones = omega arith in e) ∙ tail-in
+            ∙ (λ x. pick (sym (image-ranked u n c T) x) (indexWords (positions false (sym high-in x) (highLen u n))) []);
+      }
+
+  -- the low words
+  pub low-in : take lw (drop (6 + hw) I) ≡ numberWords lw (lowNumber (lowLen u n) T)
+  unfolding image bitWords
+  low-in =
+      let low : List ℕ = numberWords lw (lowNumber (lowLen u n) T) in
+      ap (λ (w : List ℕ). take lw (drop (6 + hw) w)) image-split
+      ∙ ap (take lw) (drop-append-add (take 6 I) (bits ++ (ones ++ zeros)) hw ∙ ap (drop hw) (append-assoc (highWords u n T) low (ones ++ zeros)) ∙ drop-at (highWords u n T) (low ++ (ones ++ zeros)) hw (length-high u n T))
+      ∙ take-at low (ones ++ zeros) lw (length-numberWords lw (lowNumber (lowLen u n) T))

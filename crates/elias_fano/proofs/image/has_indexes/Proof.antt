@@ -1,0 +1,84 @@
+-- `elias_fano::image::has_indexes` meets its contract.
+-- Assumes nothing.
+use borrow.Author.Needs.{needs}
+use borrow.Author.Tests.{not-true, not-false}
+use mathlib.Core.Path.{refl, sym, ap, _∙_}
+use native.Mathlib.Omega.{arith}
+use Rattle.elias_fano.specs.declared.image.Parts.{Parts}
+use Rattle.elias_fano.specs.Accept.{partsBy}
+use Rattle.elias_fano.proofs.Indexing as indexing
+use Rattle.elias_fano.proofs.Standing as standing
+use Rattle.elias_fano.proofs.image.has_indexes.Statement.{statement}
+use Rattle.elias_fano.proofs.image.has_indexes.Tie as tie
+
+sub-high : tie.Need-sub-high
+sub-high c = standing.six-low _ _ (c .before .pre .0) (c .before .pre .1)
+
+part-high-start : tie.Need-part-high-start
+part-high-start c = standing.six-low _ _ (c .before .pre .0) (c .before .pre .1)
+
+part-high-end : tie.Need-part-high-end
+part-high-end c = standing.low-end _ _ (c .before .pre .0) (c .before .pre .1)
+
+mul-is-index : tie.Need-mul-is-index
+mul-is-index c = let e = standing.ones-end _ _ (c .before .before .pre .0) (c .before .before .pre .1) in record { fits = omega (arith, c .before .before .good) }
+
+sub-is-index : tie.Need-sub-is-index
+sub-is-index c = standing.ones-zeros _ _ (c .before .before .pre .0) (c .before .before .pre .1)
+
+part-is-index-start : tie.Need-part-is-index-start
+part-is-index-start c = standing.ones-zeros _ _ (c .before .before .pre .0) (c .before .before .pre .1)
+
+part-is-index-end : tie.Need-part-is-index-end
+part-is-index-end c = standing.zeros-end _ _ (c .before .before .pre .0) (c .before .before .pre .1)
+
+is-index-requires : tie.Need-is-index-requires
+is-index-requires c κs = standing.indexable (c .before .before .before .args .image .now) (c .before .before .before .args .p) (c .before .before .before .pre .0) (c .before .before .before .pre .1) (c .before .before .shared-slice-known .given 0 .fits) (c .before .before .before .pre .2)
+
+returns : tie.Need-returns
+unfolding partsBy
+returns c = indexing.other-ones (c .before .before .before .before .before .args .image .now) _ _ _ _ (standing.high-part (c .before .before .before .before .before .args .image .now) (c .before .before .before .before .before .args .p) (c .before .before .before .before .before .pre .0) (c .before .before .before .before .before .pre .1)) (ap (λ (q : Parts). q .«high_len») (c .before .before .before .before .before .pre .0)) (standing.ones-part (c .before .before .before .before .before .args .image .now) (c .before .before .before .before .before .args .p) (c .before .before .before .before .before .pre .0) (c .before .before .before .before .before .pre .1)) refl _ (c .before .is-index .ensures) (not-true _ (c .if1 .taken))
+
+mul-is-index-2 : tie.Need-mul-is-index-2
+mul-is-index-2 c = let e = standing.zeros-end _ _ (c .before .before .before .before .before .before .pre .0) (c .before .before .before .before .before .before .pre .1) in record { fits = omega (arith, c .before .before .before .before .before .before .good) }
+
+sub-is-index-2 : tie.Need-sub-is-index-2
+sub-is-index-2 c = standing.zeros-end _ _ (c .before .before .before .before .before .before .pre .0) (c .before .before .before .before .before .before .pre .1)
+
+part-is-index-start-2 : tie.Need-part-is-index-start-2
+part-is-index-start-2 c = standing.zeros-end _ _ (c .before .before .before .before .before .before .pre .0) (c .before .before .before .before .before .before .pre .1)
+
+part-is-index-end-2 : tie.Need-part-is-index-end-2
+part-is-index-end-2 c = search needs
+
+is-index-requires-2 : tie.Need-is-index-requires-2
+is-index-requires-2 c κs = standing.indexable (c .before .before .before .before .before .before .before .args .image .now) (c .before .before .before .before .before .before .before .args .p) (c .before .before .before .before .before .before .before .pre .0) (c .before .before .before .before .before .before .before .pre .1) (c .before .before .before .before .before .before .shared-slice-known .given 0 .fits) (c .before .before .before .before .before .before .before .pre .2)
+
+returns-2 : tie.Need-returns-2
+unfolding partsBy
+returns-2 c = indexing.then-zeros (c .before .before .before .before .before .before .before .before .args .image .now) _ _ _ _ (standing.high-part (c .before .before .before .before .before .before .before .before .args .image .now) (c .before .before .before .before .before .before .before .before .args .p) (c .before .before .before .before .before .before .before .before .pre .0) (c .before .before .before .before .before .before .before .before .pre .1)) (ap (λ (q : Parts). q .«high_len») (c .before .before .before .before .before .before .before .before .pre .0)) (standing.ones-part (c .before .before .before .before .before .before .before .before .args .image .now) (c .before .before .before .before .before .before .before .before .args .p) (c .before .before .before .before .before .before .before .before .pre .0) (c .before .before .before .before .before .before .before .before .pre .1)) (standing.zeros-part (c .before .before .before .before .before .before .before .before .args .image .now) (c .before .before .before .before .before .before .before .before .args .p) (c .before .before .before .before .before .before .before .before .pre .0) (c .before .before .before .before .before .before .before .before .pre .1)) _ _ (c .before .before .before .before .is-index .ensures) (not-false _ (c .before .before .before .if1 .left)) (sym (ap (λ (q : Parts). q .rank) (c .before .before .before .before .before .before .before .before .pre .0)) ∙ c .before .before .if2 .taken) (c .is-index2 .ensures)
+
+returns-3 : tie.Need-returns-3
+unfolding partsBy
+returns-3 c = indexing.no-second (c .before .before .before .before .before .before .args .image .now) _ _ _ _ (standing.high-part (c .before .before .before .before .before .before .args .image .now) (c .before .before .before .before .before .before .args .p) (c .before .before .before .before .before .before .pre .0) (c .before .before .before .before .before .before .pre .1)) (ap (λ (q : Parts). q .«high_len») (c .before .before .before .before .before .before .pre .0)) (standing.ones-part (c .before .before .before .before .before .before .args .image .now) (c .before .before .before .before .before .before .args .p) (c .before .before .before .before .before .before .pre .0) (c .before .before .before .before .before .before .pre .1)) refl _ (c .before .before .is-index .ensures) (not-false _ (c .before .if1 .left)) (sym (ap (λ (q : Parts). q .rank) (c .before .before .before .before .before .before .pre .0)) ∙ c .if2 .left) (standing.no-zeros (c .before .before .before .before .before .before .args .image .now) (c .before .before .before .before .before .before .args .p) (c .before .before .before .before .before .before .pre .0) (c .before .before .before .before .before .before .pre .1) (sym (ap (λ (q : Parts). q .rank) (c .before .before .before .before .before .before .pre .0)) ∙ c .if2 .left))
+
+pub has-indexes-spec : {M : Type 1} → statement M
+has-indexes-spec =
+    tie.close
+    (tie.spec
+    sub-high
+    part-high-start
+    part-high-end
+    mul-is-index
+    sub-is-index
+    part-is-index-start
+    part-is-index-end
+    is-index-requires
+    returns
+    mul-is-index-2
+    sub-is-index-2
+    part-is-index-start-2
+    part-is-index-end-2
+    is-index-requires-2
+    returns-2
+    returns-3)

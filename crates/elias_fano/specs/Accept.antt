@@ -1,0 +1,94 @@
+-- When an image is accepted, what it holds, and what the queries answer. i is an image. Document 01, "The image" and "The book of demand 3".
+-- Assumes nothing.
+use mathlib.Core.List.{List}
+use mathlib.Core.Bool.{Bool, _&&_}
+use Prim.Native.Nat.{ℕ, _+_, _*_, _/_, _^_}
+use lib.Dec.{eqb, leb, ltb}
+use lib.ListN.{length, getD, drop}
+use Rattle.errors.specs.Answer.{Answer, value, none, refused, pick}
+use Rattle.errors.specs.Refusal.{numberOf}
+use Rattle.errors.specs.declared.Refusal.the-variants.{Invalid}
+use Rattle.bit_words.specs.Vector.{wordsFor}
+use Rattle.darray.specs.Queries.{same}
+use Rattle.elias_fano_words.specs.Sizes.{lowLen, highLen}
+use Rattle.elias_fano_words.specs.Image.{image}
+use Rattle.elias_fano_words.specs.Times.{rising, timesIn}
+use Rattle.elias_fano.specs.declared.image.Parts.{Parts}
+use Rattle.elias_fano.specs.declared.image.Opened.{Opened}
+use Rattle.elias_fano.specs.declared.image.Opened.the-variants as opened
+use Rattle.elias_fano.specs.declared.image.Value.{Value}
+use Rattle.elias_fano.specs.declared.image.Value.the-variants as val
+
+-- the settings and the list of a record: a count from 1 to 16,777,216, no more times than that, in order and below u
+unfoldable pub fit : ℕ → ℕ → List ℕ → Bool
+fit u n T = ltb u (2 ^ 64) && (leb 1 n && (leb n 16777216 && (leb (length T) n && rising u 0 T)))
+
+-- ---- what an image says of itself
+
+abbrev pub universe : List ℕ → ℕ
+universe i = getD i 0 0
+
+abbrev pub declared : List ℕ → ℕ
+declared i = getD i 1 0
+
+abbrev pub pushed : List ℕ → ℕ
+pushed i = getD i 2 0
+
+abbrev pub ranked : List ℕ → Bool
+ranked i = eqb (getD i 3 0) 1
+
+-- the list that it holds
+unfoldable pub times : List ℕ → List ℕ
+times i = timesIn (universe i) (declared i) (pushed i) (drop 6 i)
+
+-- it is word for word the image of that list
+unfoldable pub accepted : List ℕ → Bool
+accepted i = fit (universe i) (declared i) (times i) && same i (image (universe i) (declared i) (ranked i) (times i))
+
+-- ---- where its parts stand
+
+-- the words of an index over k positions, of which `over` are in the overflow list
+abbrev pub indexLen : ℕ → ℕ → ℕ
+indexLen k over = (k + 1023) / 1024 + ((k + 31) / 32 + 3) / 4 + over
+
+abbrev pub lowAt : ℕ → ℕ → ℕ
+lowAt u n = 6 + wordsFor (highLen u n)
+
+abbrev pub onesAt : ℕ → ℕ → ℕ → ℕ
+onesAt u n m = lowAt u n + wordsFor (m * lowLen u n)
+
+abbrev pub zerosAt : ℕ → ℕ → ℕ → ℕ → ℕ
+zerosAt u n m over = onesAt u n m + indexLen m over
+
+unfoldable pub partsBy : ℕ → ℕ → ℕ → Bool → ℕ → Parts
+partsBy u n m c over = record {
+  universe = u;
+  «num_vals» = n;
+  «num_pushed» = m;
+  rank = c;
+  «low_len» = lowLen u n;
+  «high_len» = highLen u n;
+  «low_at» = lowAt u n;
+  «ones_at» = onesAt u n m;
+  «zeros_at» = zerosAt u n m over;
+}
+
+abbrev pub partsOf : List ℕ → Parts
+partsOf i = partsBy (universe i) (declared i) (pushed i) (ranked i) (getD i 4 0)
+
+-- ---- the queries; 7 comes first
+
+unfoldable pub openOf : List ℕ → Opened
+openOf i = pick (accepted i) (opened.Image (partsOf i)) (opened.Refused Invalid)
+
+abbrev pub ofValue : Value → Answer
+ofValue (val.Is t) = value t
+ofValue val.Nothing = none
+ofValue (val.Refused e) = refused (numberOf e)
+
+-- the time with the number k
+unfoldable pub timeOf : List ℕ → ℕ → Answer
+timeOf i k = pick (ltb k (length (times i))) (value (getD (times i) k 0)) none
+
+unfoldable pub selectOf : List ℕ → ℕ → Answer
+selectOf i k = pick (accepted i) (timeOf i k) (refused 7)

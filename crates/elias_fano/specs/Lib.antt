@@ -1,0 +1,6 @@
+pub mod Accept
+pub mod Finishing
+pub mod Made
+pub mod Opening
+pub mod Rows
+pub mod Steps

@@ -1,0 +1,64 @@
+-- What the functions inside the crate find of an image, as facts, and what a query of an opened image demands. i is an image. Assumes nothing.
+use mathlib.Core.Path.{_≡_}
+use mathlib.Core.List.{List, []}
+use mathlib.Core.Bool.{true, false}
+use Prim.Native.Nat.{ℕ, _+_, _-_, _*_, _≤_, _<_}
+use lib.ListN.{length, getD, take, drop}
+use Rattle.errors.specs.Answer.{pick}
+use Rattle.broadword.specs.Places.{SelectInByte}
+use Rattle.bit_words.specs.Vector.{wordsFor}
+use Rattle.darray.specs.Index.{indexWords}
+use Rattle.darray.specs.Positions.{positions}
+use Rattle.elias_fano_words.specs.Sizes.{lowLen, highLen}
+use Rattle.elias_fano.specs.declared.image.Header.{Header}
+use Rattle.elias_fano.specs.declared.image.Header.the-variants as head
+use Rattle.elias_fano.specs.declared.image.Parts.{Parts}
+use Rattle.elias_fano.specs.Accept.{universe, declared, pushed, ranked, accepted, indexLen, onesAt, zerosAt, partsOf}
+
+-- the high length
+abbrev pub highOf : List ℕ → ℕ
+highOf i = highLen (universe i) (declared i)
+
+-- where the index over the ones and that over the zeros begin
+abbrev pub onesIn : List ℕ → ℕ
+onesIn i = onesAt (universe i) (declared i) (pushed i)
+
+abbrev pub zerosIn : List ℕ → ℕ
+zerosIn i = zerosAt (universe i) (declared i) (pushed i) (getD i 4 0)
+
+-- the length that the header gives
+abbrev pub endIn : List ℕ → ℕ
+endIn i = zerosIn i + pick (ranked i) (indexLen (highOf i - pushed i) (getD i 5 0)) 0
+
+-- a header in its limits, and the length that it gives
+pub record Headed (i : List ℕ) : Type 0 where
+  pub six : 6 ≤ length i
+  pub some : 0 < declared i
+  pub most : declared i ≤ 16777216
+  pub few : pushed i ≤ declared i
+  pub choice : getD i 3 0 ≤ 1
+  pub none : ranked i ≡ false → getD i 5 0 ≡ 0
+  pub long : length i ≡ endIn i
+
+abbrev pub Heads : List ℕ → Header → Type 0
+Heads i (head.Parts p) = (p ≡ partsOf i) × Headed i
+Heads i head.Wrong = accepted i ≡ true → ⊥
+
+-- the high words
+abbrev pub highIn : List ℕ → List ℕ
+highIn i = take (wordsFor (highOf i)) (drop 6 i)
+
+-- the high and the low words
+abbrev pub bitsIn : List ℕ → List ℕ
+bitsIn i = take (wordsFor (highOf i) + wordsFor (pushed i * lowLen (universe i) (declared i))) (drop 6 i)
+
+-- the indexes are those of the high bits
+pub record Indexes (i : List ℕ) : Type 0 where
+  pub ones : take (zerosIn i - onesIn i) (drop (onesIn i) i) ≡ indexWords (positions true (highIn i) (highOf i))
+  pub zeros : drop (zerosIn i) i ≡ pick (ranked i) (indexWords (positions false (highIn i) (highOf i))) []
+
+-- an accepted image with its parts, and the table of select
+pub record Open (i : List ℕ) (p : Parts) (table : List ℕ) : Type 0 where
+  pub ok : accepted i ≡ true
+  pub parts : p ≡ partsOf i
+  pub rule : SelectInByte table

@@ -1,0 +1,72 @@
+-- What each call on a builder answers and leaves: the builder and every word lent. u is the universe, n the declared count, m how many
+-- times were accepted. Document 01, "The image" and "Refusals with an example". Assumes nothing.
+use mathlib.Core.List.{List, _++_}
+use mathlib.Core.Bool.{Bool, not, _&&_}
+use Prim.Native.Nat.{ℕ, _+_, _-_, _*_, _/_, _%_, _^_}
+use lib.Dec.{eqb, leb, ltb}
+use lib.ListN.{length, take, drop, replicate}
+use Rattle.errors.specs.Answer.{value, done, refused, pick}
+use Rattle.bit_words.specs.Vector.{wordsFor, overwrite}
+use Rattle.elias_fano_words.specs.Sizes.{lowLen, highLen, startLen}
+use Rattle.elias_fano_words.specs.Image.{image}
+use Rattle.elias_fano_words.specs.Times.{lastOf, timesIn, holds}
+use Rattle.elias_fano.specs.declared.builder.Builder.{Builder}
+use Rattle.elias_fano.specs.Made.{Made, made, builder, nobody}
+
+-- ---- a start: 1, 2, 3
+
+unfoldable pub newOf : ℕ → ℕ → List ℕ → Made
+newOf u n w =
+    pick (eqb n 0) (made (refused 1) nobody w)
+    (pick (ltb 16777216 n) (made (refused 2) nobody w)
+    (pick (ltb (length w) (startLen u n)) (made (refused 3) nobody w)
+    (made done (builder u n 0 0) (replicate (startLen u n) 0 ++ drop (startLen u n) w))))
+
+-- ---- a reading: 7, 3, 4, 5, 6
+
+-- a run could hold these numbers
+unfoldable pub sound : Builder → Bool
+sound b =
+    leb 1 (b .«num_vals») && (leb (b .«num_vals») 16777216 && (leb (b .«num_pushed») (b .«num_vals»)
+    && pick (eqb (b .«num_pushed») 0) (eqb (b .last) 0) (ltb (b .last) (b .universe))))
+
+-- the words after the time t with the number m is filed: its one high bit and its low bits, and no other
+unfoldable pub filed : ℕ → ℕ → ℕ → ℕ → List ℕ → List ℕ
+filed u n m t w =
+    overwrite (overwrite w (64 * 6 + (t / 2 ^ lowLen u n + m)) 1 1)
+    (64 * (6 + wordsFor (highLen u n)) + m * lowLen u n) (lowLen u n) (t % 2 ^ lowLen u n)
+
+unfoldable pub pushOf : Builder → ℕ → List ℕ → Made
+pushOf b t w =
+    pick (not (sound b)) (made (refused 7) b w)
+    (pick (ltb (length w) (startLen (b .universe) (b .«num_vals»))) (made (refused 3) b w)
+    (pick (ltb t (b .last)) (made (refused 4) b w)
+    (pick (leb (b .universe) t) (made (refused 5) b w)
+    (pick (eqb (b .«num_pushed») (b .«num_vals»)) (made (refused 6) b w)
+    (made done (builder (b .universe) (b .«num_vals») (b .«num_pushed» + 1) t) (filed (b .universe) (b .«num_vals») (b .«num_pushed») t w))))))
+
+-- ---- a finish: 7 by the builder's numbers, 3 by the start's size, 7 by the bits, 3 by the image's length
+
+-- the high and low words of the start
+abbrev pub heldWords : Builder → List ℕ → List ℕ
+heldWords b w = take (startLen (b .universe) (b .«num_vals») - 6) (drop 6 w)
+
+-- the times in them
+unfoldable pub heldTimes : Builder → List ℕ → List ℕ
+heldTimes b w = timesIn (b .universe) (b .«num_vals») (b .«num_pushed») (heldWords b w)
+
+-- they hold nothing else, and end in the last time
+unfoldable pub intact : Builder → List ℕ → Bool
+intact b w = holds (b .universe) (b .«num_vals») (b .«num_pushed») (heldWords b w) && eqb (lastOf (heldTimes b w)) (b .last)
+
+-- the image that a finish writes
+unfoldable pub imageOf : Builder → Bool → List ℕ → List ℕ
+imageOf b c w = image (b .universe) (b .«num_vals») c (heldTimes b w)
+
+unfoldable pub buildOf : Builder → Bool → List ℕ → Made
+buildOf b c w =
+    pick (not (sound b)) (made (refused 7) b w)
+    (pick (ltb (length w) (startLen (b .universe) (b .«num_vals»))) (made (refused 3) b w)
+    (pick (not (intact b w)) (made (refused 7) b w)
+    (pick (ltb (length w) (length (imageOf b c w))) (made (refused 3) b w)
+    (made (value (length (imageOf b c w))) b (imageOf b c w ++ drop (length (imageOf b c w)) w)))))

@@ -1,0 +1,202 @@
+// Finishing a record: its image is planned, and then written over the words that hold its bits. These are inner: they demand bits that
+// hold nothing but times in order. The bits stay where they stand; the indexes follow the low words, of as many values as were pushed.
+ghost use mathlib.Core.Path.{_≡_};
+ghost use mathlib.Core.List.{[], _∷_, _++_};
+ghost use Prim.Native.Nat.{_+_, _-_, _/_, _^_, _≤_, _<_};
+ghost use lib.ListN.{length, take, drop};
+ghost use Rattle.broadword.specs.Fields.{flag};
+ghost use Rattle.bit_words.specs.Vector.{wordsFor};
+ghost use Rattle.darray.specs.Positions.{positions};
+ghost use Rattle.darray.specs.Scan.{Sized, Writable};
+ghost use Rattle.elias_fano_words.specs.Sizes.{lowLen, highLen};
+ghost use Rattle.elias_fano.specs.Finishing.{Measurable, zerosOf, zerosWords, Planned, Holding, Finishable, finishedWords, Finishes};
+use crate::builder::Built;
+use bit_words::words_for;
+use darray::inner::Measured;
+use darray::inner::Sizes;
+use darray::inner::measure;
+use darray::inner::write_within;
+use errors::Refusal;
+
+// The sizes of the indexes over the ones and the zeros of the high bits, where they begin, and where the image ends.
+pub struct Plan {
+    pub ones: Sizes,
+    pub zeros: Sizes,
+    pub ones_at: usize,
+    pub zeros_at: usize,
+    pub end: usize,
+}
+
+// The sizes of the index of no positions.
+fn no_sizes() -> Sizes
+    ensures { λ r. ⌜ Sized [] r ⌝ }
+{
+    Sizes {
+        positions: 0,
+        entries: 0,
+        lanes: 0,
+        overflow: 0,
+    }
+}
+
+// The sizes of the index over the ones or the zeros.
+fn sizes_over(words: &[u64], len: usize, over_one: bool) -> Sizes
+    requires { ⌜ Measurable (now words) len ⌝ }
+    ensures { λ r. ⌜ Sized (positions «over_one» (now (words .entry)) len) r ⌝ }
+{
+    match measure(words, len, over_one) {
+        Measured::Sizes(s) => s,
+        Measured::Refused(_) => no_sizes(),
+    }
+}
+
+// The sizes of the index over the zeros, if there is to be one.
+fn zeros_sizes(words: &[u64], len: usize, rank: bool) -> Sizes
+    requires { ⌜ Measurable (now words) len ⌝ }
+    ensures { λ r. ⌜ Sized (zerosOf rank (now (words .entry)) len) r ⌝ }
+{
+    if rank {
+        return sizes_over(words, len, false);
+    }
+    no_sizes()
+}
+
+// How many words an index of these sizes has.
+fn index_words(s: Sizes) -> usize
+    requires { ⌜ ((s .entries < 2 ^ 32) × (s .lanes < 2 ^ 32) × (s .overflow < 2 ^ 32)) ⌝ }
+    ensures { λ r. ⌜ r ≡ s .entries + (s .lanes + 3) / 4 + s .overflow ⌝ }
+{
+    s.entries + (s.lanes + 3) / 4 + s.overflow
+}
+
+// The indexes over the high bits, the first of which is to begin at the place `at`.
+fn plan_image(high: &[u64], len: usize, rank: bool, at: usize) -> Plan
+    requires { ⌜ (Measurable (now high) len × (at < 2 ^ 32)) ⌝ }
+    ensures { λ r. ⌜ Planned rank (now (high .entry)) len at r ⌝ }
+{
+    let ones = sizes_over(high, len, true);
+    let zeros = zeros_sizes(high, len, rank);
+    let zeros_at = at + index_words(ones);
+    Plan {
+        ones,
+        zeros,
+        ones_at: at,
+        zeros_at,
+        end: zeros_at + index_words(zeros),
+    }
+}
+
+// Writes the six words of the header.
+fn write_header(
+    buffer: &mut [u64],
+    universe: u64,
+    num_vals: u64,
+    num_pushed: u64,
+    rank: bool,
+    ones: usize,
+    zeros: usize,
+)
+    requires { ⌜ 6 ≤ length (now buffer) ⌝ }
+    ensures { λ _. ⌜ now (buffer .exit) ≡ universe ∷ «num_vals» ∷ «num_pushed» ∷ flag rank ∷ ones ∷ zeros ∷ drop 6 (now (buffer .entry)) ⌝ }
+{
+    buffer[0] = universe;
+    buffer[1] = num_vals;
+    buffer[2] = num_pushed;
+    buffer[3] = rank as u64;
+    buffer[4] = ones as u64;
+    buffer[5] = zeros as u64;
+}
+
+// Writes the index over the zeros of the high bits, if there is to be one.
+fn write_zeros(buffer: &mut [u64], len: usize, rank: bool, s: Sizes, at: usize)
+    requires { ⌜ ((6 + wordsFor len ≤ at) × (at ≤ length (now buffer)) × Writable (zerosOf rank (take (wordsFor len) (drop 6 (now buffer))) len) len (length (take (wordsFor len) (drop 6 (now buffer)))) s (length (now buffer) - at)) ⌝ }
+    ensures { λ _. ⌜ now (buffer .exit) ≡ take at (now (buffer .entry)) ++ (zerosWords rank (take (wordsFor len) (drop 6 (now (buffer .entry)))) len ++ drop (length (zerosWords rank (take (wordsFor len) (drop 6 (now (buffer .entry)))) len)) (drop at (now (buffer .entry)))) ⌝ }
+{
+    if !rank {
+        return;
+    }
+    write_within(&mut *buffer, 6, len, false, s, at);
+}
+
+// Writes the image of the times that the words hold.
+fn write_image(
+    buffer: &mut [u64],
+    universe: u64,
+    num_vals: u64,
+    num_pushed: u64,
+    rank: bool,
+    high_len: usize,
+    p: Plan,
+)
+    requires { ⌜ (Finishable universe «num_vals» «num_pushed» rank «high_len» p (now buffer) × (p .end ≤ length (now buffer))) ⌝ }
+    ensures { λ _. ⌜ now (buffer .exit) ≡ finishedWords universe «num_vals» «num_pushed» rank (now (buffer .entry)) ⌝ }
+{
+    let ones = p.ones;
+    let zeros = p.zeros;
+    write_header(
+        &mut *buffer,
+        universe,
+        num_vals,
+        num_pushed,
+        rank,
+        ones.overflow,
+        zeros.overflow,
+    );
+    write_within(&mut *buffer, 6, high_len, true, ones, p.ones_at);
+    write_zeros(&mut *buffer, high_len, rank, zeros, p.zeros_at);
+}
+
+// Writes the image if it has room. Before that is known, nothing is written.
+fn write_if_room(
+    buffer: &mut [u64],
+    universe: u64,
+    num_vals: u64,
+    num_pushed: u64,
+    rank: bool,
+    high_len: usize,
+    p: Plan,
+) -> Built
+    requires { ⌜ Finishable universe «num_vals» «num_pushed» rank «high_len» p (now buffer) ⌝ }
+    ensures { λ r. ⌜ Finishes universe «num_vals» «num_pushed» rank (now (buffer .entry)) r (now (buffer .exit)) ⌝ }
+{
+    if buffer.len() < p.end {
+        return Built::Refused(Refusal::ShortBuffer);
+    }
+    write_image(
+        &mut *buffer,
+        universe,
+        num_vals,
+        num_pushed,
+        rank,
+        high_len,
+        p,
+    );
+    Built::Words(p.end)
+}
+
+// Makes an image of words that hold the times.
+pub fn make_image(
+    buffer: &mut [u64],
+    universe: u64,
+    num_vals: u64,
+    num_pushed: u64,
+    rank: bool,
+    low_len: usize,
+    high_len: usize,
+) -> Built
+    requires { ⌜ (Holding universe «num_vals» «num_pushed» (now buffer) × («low_len» ≡ lowLen universe «num_vals») × («high_len» ≡ highLen universe «num_vals»)) ⌝ }
+    ensures { λ r. ⌜ Finishes universe «num_vals» «num_pushed» rank (now (buffer .entry)) r (now (buffer .exit)) ⌝ }
+{
+    let low_at = 6 + words_for(high_len);
+    let ones_at = low_at + words_for(num_pushed as usize * low_len);
+    let p = plan_image(&buffer[6..low_at], high_len, rank, ones_at);
+    write_if_room(
+        &mut *buffer,
+        universe,
+        num_vals,
+        num_pushed,
+        rank,
+        high_len,
+        p,
+    )
+}

@@ -1,0 +1,247 @@
+// Reading an image. Every public query first decides whether the image is one that some run writes.
+ghost use mathlib.Core.Bool.{true, false};
+ghost use mathlib.Core.Path.{_≡_};
+ghost use Prim.Native.Nat.{_+_, _-_, _^_, _≤_, _<_};
+ghost use Rattle.errors.specs.Answer.{pick};
+ghost use Rattle.bit_words.specs.Vector.{invalid};
+ghost use Rattle.darray.specs.Index.{indexWords};
+ghost use Rattle.darray.specs.Pending.{Decides};
+ghost use Rattle.darray.specs.Positions.{positions};
+ghost use Rattle.elias_fano_words.specs.Times.{holds};
+ghost use Rattle.elias_fano.specs.Accept.{universe as universeOf, declared, pushed, indexLen, partsBy, partsOf, openOf, ofValue, timeOf, selectOf};
+ghost use Rattle.elias_fano.specs.Opening.{Headed, Heads, bitsIn, Indexes, Open};
+use bit_words::words_for;
+use broadword::Found;
+use broadword::select_in_byte_table;
+use darray::inner::Validated;
+use darray::inner::validate;
+use darray::select1;
+use elias_fano_words::check::Checked;
+use elias_fano_words::check::check;
+use elias_fano_words::check::low_at;
+use elias_fano_words::sizes::MAX_VALS;
+use elias_fano_words::sizes::of_record;
+use errors::Refusal;
+
+// The header's numbers, and where the parts of an image stand: the high words from the word 6 on, the low words, the index over the ones and, with
+// `rank`, that over the zeros.
+pub struct Parts {
+    pub universe: u64,
+    pub num_vals: u64,
+    pub num_pushed: u64,
+    pub rank: bool,
+    pub low_len: usize,
+    pub high_len: usize,
+    pub low_at: usize,
+    pub ones_at: usize,
+    pub zeros_at: usize,
+}
+
+// The parts of an accepted image.
+pub enum Opened {
+    Image(Parts),
+    Refused(Refusal),
+}
+
+// A value of the sequence.
+pub enum Value {
+    Is(u64),
+    Nothing,
+    Refused(Refusal),
+}
+
+// The parts that a header gives.
+pub enum Header {
+    Parts(Parts),
+    Wrong,
+}
+
+// How many words an index over so many positions has, of which `overflow` are in the overflow list.
+fn index_len(positions: usize, overflow: usize) -> usize
+    requires { ⌜ ((positions < 2 ^ 32) × (overflow < 2 ^ 62)) ⌝ }
+    ensures { λ r. ⌜ r ≡ indexLen positions overflow ⌝ }
+{
+    (positions + 1023) / 1024 + ((positions + 31) / 32 + 3) / 4 + overflow
+}
+
+// Where the parts stand, by the numbers of a header in their limits.
+fn parts_of(universe: u64, num_vals: u64, num_pushed: u64, rank: bool, overflow: usize) -> Parts
+    requires { ⌜ ((0 < «num_vals») × («num_vals» ≤ 16777216) × («num_pushed» ≤ «num_vals») × (overflow < 2 ^ 62)) ⌝ }
+    ensures { λ r. ⌜ r ≡ partsBy universe «num_vals» «num_pushed» rank overflow ⌝ }
+{
+    let s = of_record(universe, num_vals);
+    let m = num_pushed as usize;
+    let low_at = 6 + words_for(s.high_len);
+    let ones_at = low_at + words_for(m * s.low_len);
+    Parts {
+        universe,
+        num_vals,
+        num_pushed,
+        rank,
+        low_len: s.low_len,
+        high_len: s.high_len,
+        low_at,
+        ones_at,
+        zeros_at: ones_at + index_len(m, overflow),
+    }
+}
+
+// How many words the index over the zeros has.
+fn zeros_len(p: Parts, overflow: usize) -> usize
+    requires { ⌜ ((p .«high_len» < 2 ^ 32) × (p .«num_pushed» ≤ p .«high_len») × (overflow < 2 ^ 62)) ⌝ }
+    ensures { λ r. ⌜ r ≡ pick (p .rank) (indexLen (p .«high_len» - p .«num_pushed») overflow) 0 ⌝ }
+{
+    if p.rank {
+        return index_len(p.high_len - p.num_pushed as usize, overflow);
+    }
+    0
+}
+
+// The header, if its numbers are in their limits and give the image's length. No sum wraps, however large the numbers are.
+fn read_header(image: &[u64]) -> Header
+    ensures { λ r. ⌜ Heads (now (image .entry)) r ⌝ }
+{
+    let len = image.len();
+    if len < 6 {
+        return Header::Wrong;
+    }
+    if image[1] == 0 {
+        return Header::Wrong;
+    }
+    if image[1] > MAX_VALS {
+        return Header::Wrong;
+    }
+    if image[2] > image[1] {
+        return Header::Wrong;
+    }
+    if image[3] > 1 {
+        return Header::Wrong;
+    }
+    if image[4] > len as u64 {
+        return Header::Wrong;
+    }
+    if image[5] > len as u64 {
+        return Header::Wrong;
+    }
+    let p = parts_of(
+        image[0],
+        image[1],
+        image[2],
+        image[3] == 1,
+        image[4] as usize,
+    );
+    if p.zeros_at + zeros_len(p, image[5] as usize) != len {
+        return Header::Wrong;
+    }
+    if p.rank {
+        return Header::Parts(p);
+    }
+    if image[5] == 0 {
+        return Header::Parts(p);
+    }
+    Header::Wrong
+}
+
+// Whether the high and the low words hold nothing but the values, in order.
+fn holds_values(image: &[u64], p: Parts) -> bool
+    requires { ⌜ ((p ≡ partsOf (now image)) × Headed (now image)) ⌝ }
+    ensures { λ r. ⌜ r ≡ holds (universeOf (now (image .entry))) (declared (now (image .entry))) (pushed (now (image .entry))) (bitsIn (now (image .entry))) ⌝ }
+{
+    let ones_at = p.ones_at;
+    match check(
+        &image[6..ones_at],
+        p.universe,
+        p.num_vals,
+        p.num_pushed,
+        p.low_len,
+        p.high_len,
+    ) {
+        Checked::Last(_last) => true,
+        Checked::Wrong => false,
+    }
+}
+
+// Whether some words are the index over the ones or the zeros of bits that are not invalid.
+fn is_index(words: &[u64], len: usize, over_one: bool, index: &[u64]) -> bool
+    requires { ⌜ ((invalid (now words) len ≡ false) × (len < 2 ^ 63)) ⌝ }
+    ensures { λ r. ⌜ Decides r (now (index .entry) ≡ indexWords (positions «over_one» (now (words .entry)) len)) ⌝ }
+{
+    match validate(words, len, over_one, index) {
+        Validated::Is(b) => b,
+        Validated::Refused(_e) => false,
+    }
+}
+
+// Whether the rest of the image is the indexes of its high bits.
+fn has_indexes(image: &[u64], p: Parts) -> bool
+    requires { ⌜ ((p ≡ partsOf (now image)) × Headed (now image) × (holds (universeOf (now image)) (declared (now image)) (pushed (now image)) (bitsIn (now image)) ≡ true)) ⌝ }
+    ensures { λ r. ⌜ Decides r (Indexes (now (image .entry))) ⌝ }
+{
+    let low_at = p.low_at;
+    let ones_at = p.ones_at;
+    let zeros_at = p.zeros_at;
+    let high = &image[6..low_at];
+    if !is_index(high, p.high_len, true, &image[ones_at..zeros_at]) {
+        return false;
+    }
+    if p.rank {
+        return is_index(high, p.high_len, false, &image[zeros_at..]);
+    }
+    true
+}
+
+// Decides whether an image is one that some run writes (document 01: opening), in time linear in its words, and tells where its parts stand.
+pub fn open(image: &[u64]) -> Opened
+    ensures { λ r. ⌜ r ≡ openOf (now (image .entry)) ⌝ }
+{
+    let Header::Parts(p) = read_header(image) else {
+        return Opened::Refused(Refusal::Invalid);
+    };
+    if !holds_values(image, p) {
+        return Opened::Refused(Refusal::Invalid);
+    }
+    if !has_indexes(image, p) {
+        return Opened::Refused(Refusal::Invalid);
+    }
+    Opened::Image(p)
+}
+
+// The value with the number k, by the indexes: constant time but for the words between every 32nd one.
+pub fn select_opened(image: &[u64], p: Parts, k: usize, table: &[u8; 2048]) -> Value
+    requires { ⌜ Open (now image) p (now table) ⌝ }
+    ensures { λ r. ⌜ ofValue r ≡ timeOf (now (image .entry)) k ⌝ }
+{
+    let m = p.num_pushed as usize;
+    if k >= m {
+        return Value::Nothing;
+    }
+    let start = p.low_at;
+    let ones_at = p.ones_at;
+    let zeros_at = p.zeros_at;
+    match select1(
+        &image[6..start],
+        p.high_len,
+        &image[ones_at..zeros_at],
+        m,
+        table,
+        k,
+    ) {
+        Found::At(place) => Value::Is(
+            (((place - k) as u64) << p.low_len) + low_at(&image[start..ones_at], p.low_len, k),
+        ),
+        Found::Nothing => Value::Nothing,
+    }
+}
+
+// The value with the number k.
+pub fn select(image: &[u64], k: usize) -> Value
+    ensures { λ r. ⌜ ofValue r ≡ selectOf (now (image .entry)) k ⌝ }
+{
+    match open(image) {
+        Opened::Image(p) => {
+            let table = select_in_byte_table();
+            select_opened(image, p, k, &table)
+        }
+        Opened::Refused(e) => Value::Refused(e),
+    }
+}

@@ -1,0 +1,4 @@
+pub mod Book
+pub mod Claims
+pub mod Running
+pub mod Shown

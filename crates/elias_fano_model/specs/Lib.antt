@@ -1,0 +1,4 @@
+pub mod Demand3
+pub mod Going
+pub mod Model
+pub mod Run
