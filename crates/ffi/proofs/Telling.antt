@@ -1,0 +1,97 @@
+-- Each answer of `elias_fano` as the struct that tells it. Assumes nothing.
+use mathlib.Core.Path.{_≡_, refl, sym, ap, _∙_, subst}
+use mathlib.Core.List.{List}
+use mathlib.Core.Bool.{Bool, true, false}
+use Prim.Native.Nat.{ℕ}
+use native.Mathlib.Omega.{arith}
+use lib.Dec.{eqb}
+use Rattle.errors.specs.Answer.{Answer, value, none, done, refused, pick}
+use Rattle.errors.specs.Refusal.{numberOf}
+use Rattle.errors.specs.declared.Refusal.{Refusal}
+use Rattle.errors.specs.declared.Refusal.the-variants.{NoValues, TooMany, ShortBuffer, Decreasing, OutOfUniverse, Full, Invalid, NoRankIndex, RangeOutOfBounds, NoBits, NoOnes, SumTooLarge, InvalidBits, WideBits, NoRoom, OutOfBounds}
+use Rattle.elias_fano.specs.declared.builder.Builder.{Builder}
+use Rattle.elias_fano.specs.declared.builder.Built.{Built}
+use Rattle.elias_fano.specs.declared.builder.Built.the-variants as built
+use Rattle.elias_fano.specs.declared.builder.Pushed.{Pushed}
+use Rattle.elias_fano.specs.declared.builder.Pushed.the-variants as pushed
+use Rattle.elias_fano.specs.declared.image.Opened.{Opened}
+use Rattle.elias_fano.specs.declared.image.Opened.the-variants as opened
+use Rattle.elias_fano.specs.declared.image.Parts.{Parts}
+use Rattle.elias_fano.specs.declared.image.Value.{Value}
+use Rattle.elias_fano.specs.declared.image.Value.the-variants as val
+use Rattle.elias_fano.specs.Accept.{accepted, partsOf, openOf, ofValue}
+use Rattle.elias_fano.specs.Made.{Made, made, ofPushed, ofBuilt}
+use Rattle.ffi.specs.Answers.{ofRefusal, openedOf}
+
+-- no refusal has the number 0
+number-some : (e : Refusal) → eqb (numberOf e) 0 ≡ false
+number-some NoValues = refl
+number-some TooMany = refl
+number-some ShortBuffer = refl
+number-some Decreasing = refl
+number-some OutOfUniverse = refl
+number-some Full = refl
+number-some Invalid = refl
+number-some NoRankIndex = refl
+number-some RangeOutOfBounds = refl
+number-some NoBits = refl
+number-some NoOnes = refl
+number-some SumTooLarge = refl
+number-some InvalidBits = refl
+number-some WideBits = refl
+number-some NoRoom = refl
+number-some OutOfBounds = refl
+
+refusal-is : (k : ℕ) (e : Refusal) → k ≡ numberOf e → ofRefusal k ≡ refused (numberOf e)
+refusal-is k e h = ap ofRefusal h ∙ ap (λ (b : Bool). pick b done (refused (numberOf e))) (number-some e)
+
+-- ---- a start or a reading
+
+pub accepted-told : (b c : Builder) (p : Pushed) (d : Builder) (w : List ℕ) → p ≡ pushed.Accepted c → d ≡ c → made (ofRefusal 0) d w ≡ ofPushed b p w
+accepted-told b c p d w e h = ap (λ (x : Builder). made done x w) h ∙ sym (ap (λ (x : Pushed). ofPushed b x w) e)
+
+pub refused-told : (b : Builder) (p : Pushed) (e : Refusal) (k : ℕ) (w : List ℕ) → p ≡ pushed.Refused e → k ≡ numberOf e → made (ofRefusal k) b w ≡ ofPushed b p w
+refused-told b p e k w q h = ap (λ (a : Answer). made a b w) (refusal-is k e h) ∙ sym (ap (λ (x : Pushed). ofPushed b x w) q)
+
+-- ---- a finish
+
+module _ (b c : Builder) (ec : c ≡ b) (r : Built) (w : List ℕ) (m : Builder → Made) (er : ofBuilt c r w ≡ m c) where
+  moved : ofBuilt b r w ≡ m b
+  moved = subst (λ (x : Builder). ofBuilt x r w ≡ m x) ec er
+
+  pub words-told : (k : ℕ) → r ≡ built.Words k → made (value k) b w ≡ m b
+  words-told k e = sym (ap (λ (x : Built). ofBuilt b x w) e) ∙ moved
+
+  pub no-words-told : (e : Refusal) (k : ℕ) → r ≡ built.Refused e → k ≡ numberOf e → made (refused k) b w ≡ m b
+  no-words-told e k q h = ap (λ (x : ℕ). made (refused x) b w) h ∙ sym (ap (λ (x : Built). ofBuilt b x w) q) ∙ moved
+
+-- ---- opening
+
+module _ (i : List ℕ) (r : Opened) (er : r ≡ openOf i) where
+  image-by : (b : Bool) (p q : Parts) → opened.Image p ≡ pick b (opened.Image q) (opened.Refused Invalid) → _≡_ {A = ℕ} 0 (pick b 0 7)
+  image-by true p q e = refl
+  image-by false p q e = let z : _≡_ {A = ℕ} 0 1 = cc in absurd (omega arith)
+
+  refused-by : (b : Bool) (k : Refusal) (q : Parts) → opened.Refused k ≡ pick b (opened.Image q) (opened.Refused Invalid) → numberOf k ≡ pick b 0 7
+  refused-by true k q e = let z : _≡_ {A = ℕ} 0 1 = cc in absurd (omega arith)
+  refused-by false k q e = let d : k ≡ Invalid = cc in ap numberOf d
+
+  pub image-told : (p : Parts) → r ≡ opened.Image p → 0 ≡ openedOf i
+  unfolding openOf openedOf
+  image-told p e = image-by (accepted i) p (partsOf i) (sym e ∙ er)
+
+  pub refusal-told : (e : Refusal) (k : ℕ) → r ≡ opened.Refused e → k ≡ numberOf e → k ≡ openedOf i
+  unfolding openOf openedOf
+  refusal-told e k q h = h ∙ refused-by (accepted i) e (partsOf i) (sym q ∙ er)
+
+-- ---- select
+
+module _ (r : Value) (a : Answer) (er : ofValue r ≡ a) where
+  pub value-told : (t : ℕ) → r ≡ val.Is t → value t ≡ a
+  value-told t e = sym (ap ofValue e) ∙ er
+
+  pub none-told : r ≡ val.Nothing → none ≡ a
+  none-told e = sym (ap ofValue e) ∙ er
+
+  pub no-value-told : (e : Refusal) (k : ℕ) → r ≡ val.Refused e → k ≡ numberOf e → refused k ≡ a
+  no-value-told e k q h = ap refused h ∙ sym (ap ofValue q) ∙ er

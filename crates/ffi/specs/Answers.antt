@@ -1,0 +1,32 @@
+-- The structs of the library in document 01's terms. Assumes nothing.
+use mathlib.Core.Path.{_≡_}
+use mathlib.Core.List.{List}
+use Prim.Native.Nat.{ℕ}
+use lib.Dec.{eqb}
+use Rattle.errors.specs.Answer.{Answer, value, none, done, refused, pick}
+use Rattle.elias_fano.specs.declared.builder.Builder.{Builder}
+use Rattle.elias_fano.specs.declared.builder.Pushed.{Pushed}
+use Rattle.elias_fano.specs.Accept.{accepted}
+use Rattle.elias_fano.specs.Made.{made, builder, ofPushed}
+use Rattle.ffi.specs.declared.EfAnswer.{EfAnswer}
+use Rattle.ffi.specs.declared.EfBuilder.{EfBuilder}
+use Rattle.ffi.specs.declared.EfPushed.{EfPushed}
+
+abbrev pub ofBuilder : EfBuilder → Builder
+ofBuilder b = builder (b .universe) (b .«num_vals») (b .«num_pushed») (b .last)
+
+-- 0 is no refusal
+abbrev pub ofRefusal : ℕ → Answer
+ofRefusal k = pick (eqb k 0) done (refused k)
+
+-- the kinds 0, 1 and 2
+abbrev pub ofAnswer : EfAnswer → Answer
+ofAnswer r = pick (eqb (r .kind) 0) (value (r .value)) (pick (eqb (r .kind) 1) none (refused (r .value)))
+
+-- what an opening says
+unfoldable pub openedOf : List ℕ → ℕ
+openedOf i = pick (accepted i) 0 7
+
+-- a start or a reading, told
+abbrev pub Told : EfBuilder → Pushed → EfPushed → Type 0
+Told b p r = (w : List ℕ) → made (ofRefusal (r .refusal)) (ofBuilder (r .builder)) w ≡ ofPushed (ofBuilder b) p w

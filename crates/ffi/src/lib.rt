@@ -1,0 +1,154 @@
+// The record for C and Rust: a static library, thin over `elias_fano`. ffi/elias_fano.h says it in C, with who owns which words.
+ghost use mathlib.Core.Path.{_≡_};
+ghost use Rattle.elias_fano.specs.Accept.{selectOf};
+ghost use Rattle.elias_fano.specs.Made.{made};
+ghost use Rattle.elias_fano.specs.Steps.{newOf, pushOf, buildOf};
+ghost use Rattle.ffi.specs.Answers.{ofBuilder, ofRefusal, ofAnswer, openedOf, Told};
+use elias_fano::builder;
+use elias_fano::builder::Builder;
+use elias_fano::builder::Built;
+use elias_fano::builder::Pushed;
+use elias_fano::image;
+use elias_fano::image::Opened;
+use elias_fano::image::Value;
+use errors::number;
+
+// How far a record is written.
+#[repr(C)]
+pub struct EfBuilder {
+    pub universe: u64,
+    pub num_vals: u64,
+    pub num_pushed: u64,
+    pub last: u64,
+}
+
+// The refusal's number, 0 where the call is accepted, and the builder to go on with.
+#[repr(C)]
+pub struct EfPushed {
+    pub refusal: u64,
+    pub builder: EfBuilder,
+}
+
+// What an answer is, and the value or the refusal's number.
+#[repr(C)]
+pub struct EfAnswer {
+    pub kind: u64,
+    pub value: u64,
+}
+
+// The kinds of an answer.
+pub const EF_VALUE: u64 = 0;
+
+pub const EF_NONE: u64 = 1;
+
+pub const EF_REFUSED: u64 = 2;
+
+fn outer(b: Builder) -> EfBuilder
+    ensures { λ r. ⌜ ofBuilder r ≡ b ⌝ }
+{
+    EfBuilder {
+        universe: b.universe,
+        num_vals: b.num_vals,
+        num_pushed: b.num_pushed,
+        last: b.last,
+    }
+}
+
+fn inner(b: EfBuilder) -> Builder
+    ensures { λ r. ⌜ r ≡ ofBuilder b ⌝ }
+{
+    Builder {
+        universe: b.universe,
+        num_vals: b.num_vals,
+        num_pushed: b.num_pushed,
+        last: b.last,
+    }
+}
+
+fn told(b: EfBuilder, p: Pushed) -> EfPushed
+    ensures { λ r. ⌜ Told b p r ⌝ }
+{
+    match p {
+        Pushed::Accepted(next) => EfPushed {
+            refusal: 0,
+            builder: outer(next),
+        },
+        Pushed::Refused(e) => EfPushed {
+            refusal: number(e),
+            builder: b,
+        },
+    }
+}
+
+// Begins a record.
+#[no_mangle]
+pub extern "C" fn ef_new(universe: u64, num_vals: u64, buffer: &mut [u64]) -> EfPushed
+    ensures { λ r. ⌜ made (ofRefusal (r .refusal)) (ofBuilder (r .builder)) (now (buffer .exit)) ≡ newOf universe «num_vals» (now (buffer .entry)) ⌝ }
+{
+    told(
+        EfBuilder {
+            universe: 0,
+            num_vals: 0,
+            num_pushed: 0,
+            last: 0,
+        },
+        builder::new(universe, num_vals, &mut *buffer),
+    )
+}
+
+// Files one value more.
+#[no_mangle]
+pub extern "C" fn ef_push(b: EfBuilder, val: u64, buffer: &mut [u64]) -> EfPushed
+    ensures { λ r. ⌜ made (ofRefusal (r .refusal)) (ofBuilder (r .builder)) (now (buffer .exit)) ≡ pushOf (ofBuilder b) val (now (buffer .entry)) ⌝ }
+{
+    told(b, builder::push(inner(b), val, &mut *buffer))
+}
+
+// Makes an image of the words: its length, or a refusal.
+#[no_mangle]
+pub extern "C" fn ef_build(b: EfBuilder, rank: bool, buffer: &mut [u64]) -> EfAnswer
+    ensures { λ r. ⌜ made (ofAnswer r) (ofBuilder b) (now (buffer .exit)) ≡ buildOf (ofBuilder b) rank (now (buffer .entry)) ⌝ }
+{
+    match builder::build(inner(b), rank, &mut *buffer) {
+        Built::Words(k) => EfAnswer {
+            kind: EF_VALUE,
+            value: k as u64,
+        },
+        Built::Refused(e) => EfAnswer {
+            kind: EF_REFUSED,
+            value: number(e),
+        },
+    }
+}
+
+// Decides whether an image is one that some run writes: 0, or the refusal's number.
+#[no_mangle]
+pub extern "C" fn ef_open(words: &[u64]) -> u64
+    ensures { λ r. ⌜ r ≡ openedOf (now (words .entry)) ⌝ }
+{
+    match image::open(words) {
+        Opened::Image(_p) => 0,
+        Opened::Refused(e) => number(e),
+    }
+}
+
+// The value with the number k.
+#[no_mangle]
+pub extern "C" fn ef_select(words: &[u64], k: usize) -> EfAnswer
+    ensures { λ r. ⌜ ofAnswer r ≡ selectOf (now (words .entry)) k ⌝ }
+{
+    match image::select(words, k) {
+        Value::Is(t) => EfAnswer {
+            kind: EF_VALUE,
+            value: t,
+        },
+        Value::Nothing => EfAnswer {
+            kind: EF_NONE,
+            value: 0,
+        },
+        Value::Refused(e) => EfAnswer {
+            kind: EF_REFUSED,
+            value: number(e),
+        },
+    }
+}
