@@ -1,10 +1,13 @@
-"""The console's sections Words and Bits, plainly, over lists of bits.
+"""The console's sections Words and Bits, and what it has of Record, plainly, over lists of bits.
 
 Written from the document that says what is right, not from the Rust: nothing here is clever, and nothing is shared with the crate.
 """
 
 LINE = 65_536
 LENT = 4_096
+BUFFER = 65_536
+MOST = 16_777_216
+HEAD = 6
 TOP = 2**64
 BLOCK = 1_024
 SUBBLOCK = 32
@@ -98,13 +101,191 @@ class Walk:
         return self.stop(1 if name == "skip1" else 0, k, 0)
 
 
+def words_of(bits):
+    return [sum(b * 2**i for i, b in enumerate(bits[at : at + 64])) for at in range(0, len(bits), 64)]
+
+
+def lanes_of(lanes):
+    """16-bit lanes, four to a word from the low end."""
+    return [sum(x * 2 ** (16 * i) for i, x in enumerate(lanes[at : at + 4])) for at in range(0, len(lanes), 4)]
+
+
+class Settings:
+    """A record's universe u and declared count n, and the sizes that follow from them."""
+
+    def __init__(self, u, n):
+        self.u, self.n = u, n
+        self.l = max(0, (u // n).bit_length() - 1)
+        self.high = n + 2 + u // 2**self.l
+        self.high_words = used_words(self.high)
+        self.low_at = HEAD + self.high_words
+        self.start = self.low_at + used_words(n * self.l)
+
+    def image(self, rank, times):
+        high, low = [0] * self.high, []
+        for k, t in enumerate(times):
+            high[t // 2**self.l + k] = 1
+            low += [t >> i & 1 for i in range(self.l)]
+        indexes, overflows = [], [0, 0]
+        for i, b in enumerate((1, 0) if rank else (1,)):
+            entries, lanes, overflow = select_index(places(high, b))
+            indexes += [e % TOP for e in entries] + lanes_of(lanes) + overflow
+            overflows[i] = len(overflow)
+        return [self.u, self.n, len(times), rank, *overflows, *words_of(high), *words_of(low), *indexes]
+
+    def times(self, m, high_words, low_words):
+        """The m times that the words hold, in order and below u; None where they hold anything else."""
+        ones = [64 * i + p for i, w in enumerate(high_words) if w for p in places(bits_of(w), 1)]
+        low = [b for w in low_words for b in bits_of(w)]
+        if len(ones) != m or any(p >= self.high for p in ones) or any(low[m * self.l :]):
+            return None
+        times = []
+        for k, p in enumerate(ones):
+            below = low[k * self.l : (k + 1) * self.l]
+            times.append((p - k) * 2**self.l + sum(b * 2**i for i, b in enumerate(below)))
+        if any(t >= self.u for t in times) or times != sorted(times):
+            return None
+        return times
+
+
+class Record:
+    """A lent buffer, a builder, and how many of the buffer's first words are the image."""
+
+    def __init__(self):
+        self.lent = []
+        self.length = 0
+        self.made = (0, 0, 0, 0)  # the builder: u, n, m and the last time
+        self.book = None  # the times, from an accepted start on, while calls alone have altered builder and words
+        self.opened = None  # what the image holds, while nothing has altered it
+
+    def buffer(self, count, value):
+        if count > BUFFER:
+            raise Bad
+        self.__init__()
+        self.lent = [value] * count
+        return "ok"
+
+    def poke(self, i, value):
+        if i >= len(self.lent):
+            raise Bad
+        self.lent[i] = value
+        self.book = self.opened = None
+        return "ok"
+
+    def forge(self, u, n, m, last):
+        self.made, self.book = (u, n, m, last), None
+        return "ok"
+
+    def image(self, length):
+        if length > len(self.lent):
+            raise Bad
+        self.length, self.opened = length, None
+        return "ok"
+
+    def words(self):
+        return list(self.lent)
+
+    def builder(self):
+        return list(self.made)
+
+    def start(self, u, n):
+        if n == 0:
+            raise Refused(1)
+        if n > MOST:
+            raise Refused(2)
+        size = Settings(u, n).start
+        if size > len(self.lent):
+            raise Refused(3)
+        self.lent[:size] = [0] * size
+        self.made, self.book, self.opened = (u, n, 0, 0), [], None
+        return "ok"
+
+    def settings(self):
+        """The builder's settings; 7 by its numbers, then 3 by the start's size."""
+        u, n, m, last = self.made
+        if not 1 <= n <= MOST or m > n or (last >= u if m else last != 0):
+            raise Refused(7)
+        settings = Settings(u, n)
+        if settings.start > len(self.lent):
+            raise Refused(3)
+        return settings
+
+    def put(self, place, b):
+        old = self.lent[place // 64]
+        self.lent[place // 64] = old - (old >> place % 64 & 1) * 2 ** (place % 64) + b * 2 ** (place % 64)
+
+    def reading(self, t):
+        settings = self.settings()
+        u, n, m, last = self.made
+        if t < last:
+            raise Refused(4)
+        if t >= u:
+            raise Refused(5)
+        if m == n:
+            raise Refused(6)
+        self.put(64 * HEAD + t // 2**settings.l + m, 1)
+        for i in range(settings.l):
+            self.put(64 * settings.low_at + m * settings.l + i, t >> i & 1)
+        self.made, self.opened = (u, n, m + 1, t), None
+        if self.book is not None:
+            self.book.append(t)
+        return "ok"
+
+    def finish(self, rank):
+        settings = self.settings()
+        _, _, m, last = self.made
+        high, low = self.lent[HEAD : settings.low_at], self.lent[settings.low_at : settings.start]
+        times = settings.times(m, high, low)
+        if times is None or (times and times[-1] != last):
+            raise Refused(7)
+        image = settings.image(rank, times)
+        if len(image) > len(self.lent):
+            raise Refused(3)
+        self.lent[: len(image)] = image
+        self.length, self.book, self.opened = len(image), None, None
+        return len(image)
+
+    def accepted(self):
+        """The settings, the rank choice and the times of the image; 7 where it is none."""
+        words = self.lent[: self.length]
+        if self.opened is None or self.opened[0] != words:
+            self.opened = words, self.read(words)
+        if self.opened[1] is None:
+            raise Refused(7)
+        return self.opened[1]
+
+    def read(self, words):
+        if len(words) < HEAD:
+            return None
+        u, n, m, rank = words[:4]
+        if not 1 <= n <= MOST or m > n or rank > 1:
+            return None
+        settings = Settings(u, n)
+        low_end = settings.low_at + used_words(m * settings.l)
+        if len(words) < low_end:
+            return None
+        times = settings.times(m, words[HEAD : settings.low_at], words[settings.low_at : low_end])
+        if times is None or settings.image(rank, times) != words:
+            return None
+        return settings, rank, times
+
+    def open(self):
+        self.accepted()
+        return "ok"
+
+    def select(self, k):
+        _, _, times = self.accepted()
+        return kth(times, k)
+
+
 class Console:
-    """Lent words and a length, and the answer to a line."""
+    """Lent words and a length, a record, and the answer to a line."""
 
     def __init__(self):
         self.length = 0
         self.words = []
         self.known = None  # the bits, while nothing has altered them
+        self.record = Record()
 
     def line(self, raw):
         """The answer to a line without its line feed; None where nothing is written."""
@@ -117,9 +298,11 @@ class Console:
         except Bad:
             return "bad command"
         try:
-            return shown(getattr(self, name)(*args))
+            return shown(getattr(self.record if name in RECORD else self, name)(*args))
         except Refused as number_of:
             return f"refused {number_of}"
+        except Bad:
+            return "bad command"
 
     def parse(self, raw):
         """The command's name and its arguments, or Bad."""
@@ -136,9 +319,10 @@ class Console:
             if len(words) < 2:
                 raise Bad
             return name, (number(words[1]), self.parse_steps(words[2:]))
-        if name not in FORMS or len(words) - 1 != len(FORMS[name]):
+        forms = RECORD.get(name, FORMS.get(name))
+        if forms is None or len(words) - 1 != len(forms):
             raise Bad
-        return name, [form(w) for form, w in zip(FORMS[name], words[1:])]
+        return name, [form(w) for form, w in zip(forms, words[1:])]
 
     def parse_steps(self, words):
         steps, at = [], 0
@@ -301,6 +485,20 @@ FORMS = {
     "num_ones": (),
     "index": (choice,),
     "index_select": (choice, number),
+}
+
+RECORD = {
+    "buffer": (number, number),
+    "poke": (number, number),
+    "forge": (number, number, number, number),
+    "image": (number,),
+    "words": (),
+    "builder": (),
+    "start": (number, number),
+    "reading": (number,),
+    "finish": (choice,),
+    "open": (),
+    "select": (number,),
 }
 
 

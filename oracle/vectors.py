@@ -1,5 +1,5 @@
 #!/usr/bin/env python3
-"""Makes the console's test vectors for words and bits, and compares them with the Rust.
+"""Makes the console's test vectors for words, bits and the record, and compares them with the Rust.
 
     vectors.py [--oracle PATH] [--seed N] [--stdin PATH] [--stdout PATH]   writes both files
     vectors.py --check [--seed N] [--random N] [--exhaustive]              compares only
@@ -11,11 +11,12 @@ falls into exactly one of the named differences; anything else is an error. A ta
 import argparse
 import pathlib
 import random
-import subprocess
 import sys
 
 sys.dont_write_bytecode = True
-from model import LENT, LINE, TOP, Console, used_words
+import records
+from model import LENT, LINE, RECORD, TOP, Console, used_words
+from rust import ask, image
 
 HERE = pathlib.Path(__file__).resolve().parent
 MAX = TOP - 1
@@ -297,16 +298,6 @@ DIFFERENCES = [
 # Comparing.
 
 
-def ask(oracle, lines):
-    """The oracle's answers, one for each line."""
-    text = "".join(line + "\n" for line in lines)
-    done = subprocess.run([oracle], input=text.encode(), stdout=subprocess.PIPE, check=True)
-    answers = done.stdout.decode().split("\n")[:-1]
-    if len(answers) != len(lines):
-        sys.exit(f"the oracle gave {len(answers)} answers to {len(lines)} lines")
-    return answers
-
-
 def replay(lines):
     """The model's answers to the lines, and a case for each line in form."""
     console, answers, cases = Console(), [], []
@@ -314,7 +305,7 @@ def replay(lines):
         before = console.length, list(console.words), console.is_bad()
         answer = console.line(line)
         answers.append(answer)
-        if answer not in (None, "bad command"):
+        if answer not in (None, "bad command") and line.split(b" ")[0].decode() not in RECORD:
             cases.append((line, Case(*console.parse(line), answer, *before)))
     return answers, cases
 
@@ -362,22 +353,6 @@ def check_examples(oracle):
         _, seen, agreed, _ = compare(oracle, [line.encode() for line in smallest])
         if (sum(seen), seen[i], agreed) != (1, 1, len(smallest) - 1):
             sys.exit(f"the smallest input of '{name}' does not show it")
-
-
-def image(parts):
-    """The record's image, in the order of the document, from what the oracle's `parts` shows."""
-    numbers, high, low, *indexes = parts.split(" ; ")
-    u, n, m, rank, _ = map(int, numbers.split())
-    words, overflow = [], []
-    for part in (high, low):
-        words += map(int, part.split(":")[1].split())
-    for part in indexes:
-        _, entries, lanes, far = (list(map(int, field.split())) for field in part.split("|"))
-        words += [e % TOP for e in entries]
-        words += [sum(x << 16 * i for i, x in enumerate(lanes[at : at + 4])) for at in range(0, len(lanes), 4)]
-        words += far
-        overflow.append(len(far))
-    return [u, n, m, rank, *overflow, *([0] * (2 - len(overflow))), *words]
 
 
 def check_records(oracle):
@@ -986,7 +961,7 @@ def add_one(add):
 def make(seed, count):
     """The whole script."""
     add = Lines(seed)
-    add.note("Test vectors of the console, words and bits. Made by oracle/vectors.py; do not edit.")
+    add.note("Test vectors of the console. Made by oracle/vectors.py; do not edit.")
     add.note("No vector is set yet.")
     add("dump")
     add("num_ones")
@@ -1009,6 +984,7 @@ def make(seed, count):
     add_out_of_form(add)
     add.note("random vectors and commands")
     add_random(add, count)
+    records.add_records(add, count // 10)
     add.note("the last line lacks its line feed")
     add("dump")
     return add.lines
@@ -1033,6 +1009,11 @@ def exhaustive():
     return [line.encode() for line in lines]
 
 
+def together(a, b):
+    """Two counts of differences, agreed and asked calls, added."""
+    return [[x + y for x, y in zip(a[0], b[0])], a[1] + b[1], a[2] + b[2]]
+
+
 def main():
     root = HERE.parent / "crates" / "console"
     options = argparse.ArgumentParser(description=__doc__, formatter_class=argparse.RawDescriptionHelpFormatter)
@@ -1049,14 +1030,15 @@ def main():
     if not oracle.exists():
         sys.exit("no oracle: run oracle/build first")
     check_examples(oracle)
+    records.check_examples(oracle)
     check_records(oracle)
     check_tables(oracle)
     lines = make(args.seed, args.random)
-    answers, seen, agreed, asked = compare(oracle, lines)
+    answers, *bits = compare(oracle, lines)
+    record = records.compare(oracle, lines)
     if args.exhaustive:
-        _, more, agreed_too, asked_too = compare(oracle, exhaustive())
-        seen = [a + b for a, b in zip(seen, more)]
-        agreed, asked = agreed + agreed_too, asked + asked_too
+        bits = together(bits, compare(oracle, exhaustive())[1:])
+        record = together(record, records.compare(oracle, records.exhaustive()))
     written = [a for a in answers if a is not None]
     if not args.check and not args.exhaustive:
         for path, text in ((args.stdin, b"\n".join(lines)), (args.stdout, "".join(a + "\n" for a in written).encode())):
@@ -1064,9 +1046,10 @@ def main():
             path.write_bytes(text)
 
     print(f"{len(lines)} lines, {len(written)} answers, {written.count('bad command')} of them bad commands")
-    print(f"{asked} lines asked of the Rust, {agreed} agree, {sum(seen)} differ:")
-    for (name, smallest, _), count in zip(DIFFERENCES, seen):
-        print(f"  {count:6}  {name:52} {' / '.join(smallest)}")
+    for differences, (seen, agreed, asked) in ((DIFFERENCES, bits), (records.DIFFERENCES, record)):
+        print(f"{asked} calls asked of the Rust, {agreed} agree, {sum(seen)} differ:")
+        for (name, smallest, _), count in zip(differences, seen):
+            print(f"  {count:6}  {name:52} {' / '.join(smallest)}")
 
 
 if __name__ == "__main__":

@@ -1,9 +1,5 @@
 // The section Bits: a bit vector that is held as lent words and a length. Nothing is checked when it is set.
 use crate::index;
-use crate::line;
-use crate::line::Arguments;
-use crate::output;
-use crate::output::Reply;
 use bit_vectors::Altered;
 use bit_vectors::Bit;
 use bit_vectors::Count;
@@ -11,6 +7,10 @@ use bit_vectors::Place;
 use bit_vectors::Pushed;
 use bit_vectors::Word;
 use bit_vectors::bit_vector;
+use console_text::line;
+use console_text::line::Arguments;
+use console_text::output;
+use console_text::output::Reply;
 
 fn word(w: Word) -> Reply {
     match w {

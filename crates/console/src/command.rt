@@ -1,15 +1,17 @@
-// One line of input: finds its section and answers it. Another section is one more question of `of_numbers`.
+// One line of input: finds its section and answers it.
 ghost use Prim.Native.Nat.{_≤_};
 ghost use lib.ListN.{length};
 use crate::bits;
 use crate::bits::Told;
 use crate::index;
-use crate::line;
-use crate::line::Arguments;
-use crate::output;
-use crate::output::Reply;
 use crate::walk;
 use crate::words;
+use console_record::Record;
+use console_record::show;
+use console_text::line;
+use console_text::line::Arguments;
+use console_text::output;
+use console_text::output::Reply;
 
 // What the console holds besides its arrays.
 pub struct State {
@@ -19,6 +21,8 @@ pub struct State {
     // The bits: how many words are lent, and the length.
     pub lent: usize,
     pub len: usize,
+    // The record, but for the buffer's words.
+    pub record: Record,
     // How many bytes of output have gathered.
     pub at: usize,
     // Whether the input goes on.
@@ -69,7 +73,7 @@ fn stored(text: &[u8], end: usize, words: &mut [u64; 4096])
     }
 }
 
-// A command that takes a few numbers and has one answer.
+// The sections Words and Bits.
 fn of_numbers(name: &[u8], r: Arguments, words: &mut [u64], len: usize) -> Told {
     if !r.fit {
         return Told {
@@ -88,10 +92,30 @@ fn of_numbers(name: &[u8], r: Arguments, words: &mut [u64], len: usize) -> Told 
     bits::alter(name, r, words, len)
 }
 
+// The section Record.
+fn of_record(
+    name: &[u8],
+    r: Arguments,
+    buffer: &mut [u64; 65536],
+    out: &mut [u8; 65536],
+    s: State,
+) -> State {
+    let mut t = s;
+    let held = s.record;
+    let told = console_record::answer(name, r, buffer, held);
+    let reply = told.reply;
+    let record = told.record;
+    t.record = record;
+    t.at = output::reply_line(out, s.at, reply);
+    t
+}
+
+// A command that takes a few numbers and has one answer: what the first two sections do not know is asked of the record.
 fn numbered(
     name: &[u8],
     r: Arguments,
     words: &mut [u64],
+    buffer: &mut [u64; 65536],
     out: &mut [u8; 65536],
     s: State,
 ) -> State {
@@ -102,12 +126,15 @@ fn numbered(
     }
     let told = of_numbers(name, r, &mut words[..n], s.len);
     let reply = told.reply;
+    if !output::is_known(reply) {
+        return of_record(name, r, buffer, out, s);
+    }
     t.len = told.len;
     t.at = output::reply_line(out, s.at, reply);
     t
 }
 
-// The numbers of `index`, one choice, and of `dump`, none.
+// The numbers of `index`, one choice, and of `dump`, `words` and `builder`, none.
 fn fits_list(k: usize, r: Arguments) -> bool {
     if !r.fit {
         return false;
@@ -118,7 +145,7 @@ fn fits_list(k: usize, r: Arguments) -> bool {
     r.n == 0
 }
 
-// The commands that write a list.
+// The commands of Bits that write a list.
 fn listed(
     k: usize,
     text: &[u8],
@@ -143,8 +170,29 @@ fn listed(
     bits::dump(words, len, out, at)
 }
 
+// Those of Record: `words` 4, `builder` 5.
+fn recorded(
+    k: usize,
+    r: Arguments,
+    buffer: &[u64],
+    record: Record,
+    out: &mut [u8; 65536],
+    at: usize,
+) -> usize {
+    if fits_list(k, r) {
+        return show::answer(k, buffer, record, out, at);
+    }
+    output::reply_line(out, at, Reply::Bad)
+}
+
 // Answers a line, but for an empty one and one that begins with '#'.
-pub fn answer(text: &[u8], words: &mut [u64; 4096], out: &mut [u8; 65536], s: State) -> State {
+pub fn answer(
+    text: &[u8],
+    words: &mut [u64; 4096],
+    buffer: &mut [u64; 65536],
+    out: &mut [u8; 65536],
+    s: State,
+) -> State {
     if text.len() == 0 {
         return s;
     }
@@ -153,14 +201,20 @@ pub fn answer(text: &[u8], words: &mut [u64; 4096], out: &mut [u8; 65536], s: St
     }
     let end = line::word_end(text, 0);
     let name = &text[..end];
-    let k = line::place_in(b"bits unary index dump", name);
+    let k = line::place_in(b"bits unary index dump words builder", name);
     if k == 0 {
         return set(text, end, words, out, s);
     }
+    let mut t = s;
     if k < 4 {
-        let mut t = s;
         t.at = listed(k, text, end, line::first(words, s.lent), s.len, out, s.at);
         return t;
     }
-    numbered(name, line::numbers(text, end), words, out, s)
+    let r = line::numbers(text, end);
+    if k < 6 {
+        let record = s.record;
+        t.at = recorded(k, r, buffer, record, out, s.at);
+        return t;
+    }
+    numbered(name, r, words, buffer, out, s)
 }

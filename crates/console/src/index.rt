@@ -1,8 +1,8 @@
 // `index` and `index_select`: the select index over the ones or the zeros of the bits, built anew each time.
 use crate::bits;
-use crate::line;
-use crate::output;
-use crate::output::Reply;
+use console_text::line;
+use console_text::output;
+use console_text::output::Reply;
 use darray::inner;
 use darray::inner::Built;
 use darray::inner::Measured;

@@ -5,12 +5,12 @@ ghost use lib.ListN.{length};
 mod bits;
 mod command;
 mod index;
-mod line;
-mod output;
 mod walk;
 mod words;
 
 use command::State;
+use console_text::line;
+use console_text::output;
 
 // The part joins the line, as far as there is room.
 fn gather(text: &mut [u8; 65536], part: &[u8], s: State) -> State {
@@ -33,7 +33,13 @@ fn gather(text: &mut [u8; 65536], part: &[u8], s: State) -> State {
 }
 
 // The line as it stands is answered.
-fn ended(text: &[u8], words: &mut [u64; 4096], out: &mut [u8; 65536], s: State) -> State {
+fn ended(
+    text: &[u8],
+    words: &mut [u64; 4096],
+    buffer: &mut [u64; 65536],
+    out: &mut [u8; 65536],
+    s: State,
+) -> State {
     let n = s.count;
     if s.long {
         return command::bad(out, s);
@@ -41,12 +47,18 @@ fn ended(text: &[u8], words: &mut [u64; 4096], out: &mut [u8; 65536], s: State) 
     if text.len() < n {
         return s;
     }
-    command::answer(&text[..n], words, out, s)
+    command::answer(&text[..n], words, buffer, out, s)
 }
 
 // Answers the line, and starts the next.
-fn answered(text: &[u8; 65536], words: &mut [u64; 4096], out: &mut [u8; 65536], s: State) -> State {
-    let mut t = ended(text, words, out, s);
+fn answered(
+    text: &[u8; 65536],
+    words: &mut [u64; 4096],
+    buffer: &mut [u64; 65536],
+    out: &mut [u8; 65536],
+    s: State,
+) -> State {
+    let mut t = ended(text, words, buffer, out, s);
     t.count = 0;
     t.long = false;
     t
@@ -59,6 +71,7 @@ fn eat(
     end: usize,
     text: &mut [u8; 65536],
     words: &mut [u64; 4096],
+    buffer: &mut [u64; 65536],
     out: &mut [u8; 65536],
     s: State,
 ) -> State
@@ -67,7 +80,7 @@ fn eat(
 {
     let t = gather(text, &input[from..end], s);
     if end < input.len() {
-        return answered(text, words, out, t);
+        return answered(text, words, buffer, out, t);
     }
     t
 }
@@ -76,6 +89,7 @@ fn eat_all(
     input: &[u8],
     text: &mut [u8; 65536],
     words: &mut [u64; 4096],
+    buffer: &mut [u64; 65536],
     out: &mut [u8; 65536],
     s: State,
 ) -> State {
@@ -83,7 +97,7 @@ fn eat_all(
     let mut at: usize = 0;
     while at < input.len() {
         let end = line::find(input, at, b'\n');
-        t = eat(input, at, end, text, words, out, t);
+        t = eat(input, at, end, text, words, buffer, out, t);
         at = end + 1;
     }
     t
@@ -102,33 +116,42 @@ fn stopped(s: State) -> State {
 }
 
 // Reads once, and answers the lines that are whole. At the end of the input the last line may lack its line feed.
-fn turn(text: &mut [u8; 65536], words: &mut [u64; 4096], out: &mut [u8; 65536], s: State) -> State {
+fn turn(
+    text: &mut [u8; 65536],
+    words: &mut [u64; 4096],
+    buffer: &mut [u64; 65536],
+    out: &mut [u8; 65536],
+    s: State,
+) -> State {
     let mut input = io::large_buffer();
     let got = libc::read(0, &mut input);
     if got <= 0 {
-        let t = answered(text, words, out, s);
+        let t = answered(text, words, buffer, out, s);
         return stopped(flushed(out, t));
     }
     let n = io::count(got, &input);
-    let t = eat_all(&input[..n], text, words, out, s);
+    let t = eat_all(&input[..n], text, words, buffer, out, s);
     flushed(out, t)
 }
 
 fn main() {
     let mut text = [0u8; 65536];
     let mut words = [0u64; 4096];
+    let mut buffer = [0u64; 65536];
     let mut out = [0u8; 65536];
+    let record = console_record::nothing();
     let mut s = State {
         count: 0,
         long: false,
         lent: 0,
         len: 0,
+        record,
         at: 0,
         going: true,
     };
     let mut turns = u64::MAX;
     while turns > 0 && s.going {
-        s = turn(&mut text, &mut words, &mut out, s);
+        s = turn(&mut text, &mut words, &mut buffer, &mut out, s);
         turns -= 1;
     }
 }

@@ -1,14 +1,14 @@
 // `unary P STEP..`: a walk over the ones from P, with one answer for each step.
 ghost use Prim.Native.Nat.{_≤_, _<_};
 ghost use lib.ListN.{length};
-use crate::line;
-use crate::output;
-use crate::output::Reply;
 use bit_vectors::Place;
 use bit_vectors::unary;
 use bit_vectors::unary::Started;
 use bit_vectors::unary::Stepped;
 use bit_vectors::unary::Unary;
+use console_text::line;
+use console_text::output;
+use console_text::output::Reply;
 use decimal::Parsed;
 
 // A step of the line: its kind, its number, and where it ends. The kinds are `skip1` 0, `skip0` 1, `next` 2, `position` 3,

@@ -1,8 +1,8 @@
 // The section Words: questions about one word.
-use crate::line;
-use crate::line::Arguments;
-use crate::output::Reply;
 use broadword::Found;
+use console_text::line;
+use console_text::line::Arguments;
+use console_text::output::Reply;
 
 fn found(f: Found) -> Reply {
     match f {

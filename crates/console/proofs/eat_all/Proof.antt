@@ -6,10 +6,10 @@ use Rattle.console.proofs.eat_all.Statement.{statement}
 use Rattle.console.proofs.eat_all.Tie as tie
 
 abbrev Inv-loop : tie.InvT-loop
-Inv-loop input text₀ words₀ out₀ t₀ at₀ text words out t at = Unit {0}
+Inv-loop input text₀ words₀ buffer₀ out₀ t₀ at₀ text words buffer out t at = Unit {0}
 
 abbrev μ-loop : tie.MeasureT-loop
-μ-loop input text₀ words₀ out₀ t₀ at₀ text words out t at = length input - at
+μ-loop input text₀ words₀ buffer₀ out₀ t₀ at₀ text words buffer out t at = length input - at
 
 loop-holds : tie.Need-loop-holds Inv-loop μ-loop
 loop-holds c = search needs

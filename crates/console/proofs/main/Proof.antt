@@ -4,10 +4,13 @@ use Rattle.console.proofs.main.Statement.{statement}
 use Rattle.console.proofs.main.Tie as tie
 
 abbrev Inv-loop : tie.InvT-loop
-Inv-loop text₀ words₀ out₀ s₀ turns₀ text words out s turns = Unit {0}
+Inv-loop text₀ words₀ buffer₀ out₀ s₀ turns₀ text words buffer out s turns = Unit {0}
 
 abbrev μ-loop : tie.MeasureT-loop
-μ-loop text₀ words₀ out₀ s₀ turns₀ text words out s turns = turns
+μ-loop text₀ words₀ buffer₀ out₀ s₀ turns₀ text words buffer out s turns = turns
+
+nothing-requires : tie.Need-nothing-requires Inv-loop μ-loop
+nothing-requires c κs = search needs
 
 loop-holds : tie.Need-loop-holds Inv-loop μ-loop
 loop-holds c = search needs
@@ -36,6 +39,7 @@ main-spec =
     (tie.spec
     Inv-loop
     μ-loop
+    nothing-requires
     loop-holds
     turn-requires
     sub-turns

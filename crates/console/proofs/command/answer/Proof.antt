@@ -44,11 +44,17 @@ returns-4 c = search needs
 numbers-requires : tie.Need-numbers-requires
 numbers-requires c κs = search needs
 
-numbered-requires : tie.Need-numbered-requires
-numbered-requires c κs = search needs
+recorded-requires : tie.Need-recorded-requires
+recorded-requires c κs = search needs
 
 returns-5 : tie.Need-returns-5
 returns-5 c = search needs
+
+numbered-requires : tie.Need-numbered-requires
+numbered-requires c κs = search needs
+
+returns-6 : tie.Need-returns-6
+returns-6 c = search needs
 
 pub answer-spec : {M : Type 1} → statement M
 answer-spec =
@@ -67,5 +73,7 @@ answer-spec =
     listed-requires
     returns-4
     numbers-requires
+    recorded-requires
+    returns-5
     numbered-requires
-    returns-5)
+    returns-6)

@@ -17,14 +17,26 @@ slice-aggregate-of-numbers c = sym (length-take-le _ _ (search needs))
 of-numbers-requires : tie.Need-of-numbers-requires
 of-numbers-requires c κs = search needs
 
-reply-line-requires : tie.Need-reply-line-requires
-reply-line-requires c κs = search needs
+is-known-requires : tie.Need-is-known-requires
+is-known-requires c κs = search needs
+
+of-record-requires : tie.Need-of-record-requires
+of-record-requires c κs = search needs
 
 same-length : tie.Need-same-length
 same-length c = search needs
 
 returns-2 : tie.Need-returns-2
 returns-2 c = search needs
+
+reply-line-requires : tie.Need-reply-line-requires
+reply-line-requires c κs = search needs
+
+same-length-2 : tie.Need-same-length-2
+same-length-2 c = search needs
+
+returns-3 : tie.Need-returns-3
+returns-3 c = search needs
 
 pub numbered-spec : {M : Type 1} → statement M
 numbered-spec =
@@ -34,6 +46,10 @@ numbered-spec =
     slice-relend-prefix-of-numbers
     slice-aggregate-of-numbers
     of-numbers-requires
-    reply-line-requires
+    is-known-requires
+    of-record-requires
     same-length
-    returns-2)
+    returns-2
+    reply-line-requires
+    same-length-2
+    returns-3)

@@ -3,12 +3,14 @@ ghost use Prim.Native.Nat.{_≤_};
 ghost use lib.ListN.{length};
 use decimal::Parsed;
 
-// The words after a command as numbers: whether all of them are, how many, and the first two.
+// The words after a command as numbers: whether all of them are, how many, and the first four.
 pub struct Arguments {
     pub fit: bool,
     pub n: usize,
     pub a: u64,
     pub b: u64,
+    pub c: u64,
+    pub d: u64,
 }
 
 // The first place from `from` on that holds the byte, or the end.
@@ -65,6 +67,17 @@ pub fn place_in(list: &[u8], name: &[u8]) -> usize {
     k
 }
 
+fn no_numbers() -> Arguments {
+    Arguments {
+        fit: false,
+        n: 0,
+        a: 0,
+        b: 0,
+        c: 0,
+        d: 0,
+    }
+}
+
 fn if_at(n: usize, k: usize, x: u64, other: u64) -> u64 {
     if n == k { x } else { other }
 }
@@ -74,23 +87,29 @@ pub fn numbers(line: &[u8], end: usize) -> Arguments {
     let mut n: usize = 0;
     let mut a: u64 = 0;
     let mut b: u64 = 0;
+    let mut c: u64 = 0;
+    let mut d: u64 = 0;
     let mut at = end;
     while at < line.len() {
         let start = at + 1;
         at = word_end(line, start);
         let Parsed::Value(x) = decimal::parse(&line[start..at]) else {
-            return Arguments {
-                fit: false,
-                n: 0,
-                a: 0,
-                b: 0,
-            };
+            return no_numbers();
         };
         a = if_at(n, 0, x, a);
         b = if_at(n, 1, x, b);
+        c = if_at(n, 2, x, c);
+        d = if_at(n, 3, x, d);
         n += 1;
     }
-    Arguments { fit: true, n, a, b }
+    Arguments {
+        fit: true,
+        n,
+        a,
+        b,
+        c,
+        d,
+    }
 }
 
 fn value(text: &[u8]) -> u64 {

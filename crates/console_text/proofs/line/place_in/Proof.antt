@@ -1,9 +1,9 @@
--- `console::line::place_in` is safe and ends. No more words are passed than bytes. Assumes nothing.
+-- `console_text::line::place_in` is safe and ends. No more words are passed than bytes. Assumes nothing.
 use borrow.Author.Needs.{needs}
 use Prim.Native.Nat.{_≤_, _-_}
 use lib.ListN.{length}
-use Rattle.console.proofs.line.place_in.Statement.{statement}
-use Rattle.console.proofs.line.place_in.Tie as tie
+use Rattle.console_text.proofs.line.place_in.Statement.{statement}
+use Rattle.console_text.proofs.line.place_in.Tie as tie
 
 abbrev Inv-loop : tie.InvT-loop
 Inv-loop list name k₀ at₀ k at = k ≤ at

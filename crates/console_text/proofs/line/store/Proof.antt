@@ -1,9 +1,9 @@
--- `console::line::store` is safe and ends. No more numbers are stored than bytes are passed. Assumes nothing.
+-- `console_text::line::store` is safe and ends. No more numbers are stored than bytes are passed. Assumes nothing.
 use borrow.Author.Needs.{needs}
 use Prim.Native.Nat.{_≤_, _-_}
 use lib.ListN.{length}
-use Rattle.console.proofs.line.store.Statement.{statement}
-use Rattle.console.proofs.line.store.Tie as tie
+use Rattle.console_text.proofs.line.store.Statement.{statement}
+use Rattle.console_text.proofs.line.store.Tie as tie
 
 abbrev Inv-loop : tie.InvT-loop
 Inv-loop line end words₀ i₀ at₀ words i at = i ≤ at

@@ -1,9 +1,9 @@
--- `console::output::list` is safe and ends. Assumes nothing.
+-- `console_text::output::list` is safe and ends. Assumes nothing.
 use borrow.Author.Needs.{needs}
 use Prim.Native.Nat.{_≤_, _-_}
 use lib.ListN.{length}
-use Rattle.console.proofs.output.list.Statement.{statement}
-use Rattle.console.proofs.output.list.Tie as tie
+use Rattle.console_text.proofs.output.list.Statement.{statement}
+use Rattle.console_text.proofs.output.list.Tie as tie
 
 abbrev Inv-loop : tie.InvT-loop
 Inv-loop out₀ at xs to₀ i₀ out to i = i ≤ length xs

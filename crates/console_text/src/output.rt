@@ -86,6 +86,15 @@ pub fn list(out: &mut [u8; 65536], at: usize, xs: &[u64]) -> usize {
     to
 }
 
+// The numbers of a list with a space between them.
+pub fn numbers(out: &mut [u8; 65536], at: usize, xs: &[u64]) -> usize {
+    if xs.len() == 0 {
+        return at;
+    }
+    let to = number(out, at, xs[0]);
+    list(out, to, &xs[1..])
+}
+
 pub fn line_end(out: &mut [u8; 65536], at: usize) -> usize {
     byte(out, at, b'\n')
 }

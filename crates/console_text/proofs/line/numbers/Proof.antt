@@ -1,15 +1,15 @@
--- `console::line::numbers` is safe and ends. No more numbers are passed than bytes. Assumes nothing.
+-- `console_text::line::numbers` is safe and ends. No more numbers are passed than bytes. Assumes nothing.
 use borrow.Author.Needs.{needs}
 use Prim.Native.Nat.{_≤_, _-_}
 use lib.ListN.{length}
-use Rattle.console.proofs.line.numbers.Statement.{statement}
-use Rattle.console.proofs.line.numbers.Tie as tie
+use Rattle.console_text.proofs.line.numbers.Statement.{statement}
+use Rattle.console_text.proofs.line.numbers.Tie as tie
 
 abbrev Inv-loop : tie.InvT-loop
-Inv-loop line end n₀ a₀ b₀ at₀ n a b at = n ≤ at
+Inv-loop line end n₀ a₀ b₀ c₀ d₀ at₀ n a b c d at = n ≤ at
 
 abbrev μ-loop : tie.MeasureT-loop
-μ-loop line end n₀ a₀ b₀ at₀ n a b at = length line - at
+μ-loop line end n₀ a₀ b₀ c₀ d₀ at₀ n a b c d at = length line - at
 
 loop-holds : tie.Need-loop-holds Inv-loop μ-loop
 loop-holds c = search needs
@@ -35,6 +35,9 @@ parse-requires c κs = search needs
 enum-known-x : tie.Need-enum-known-x Inv-loop μ-loop
 enum-known-x c = search needs
 
+no-numbers-requires : tie.Need-no-numbers-requires Inv-loop μ-loop
+no-numbers-requires c κs = search needs
+
 returns : tie.Need-returns Inv-loop μ-loop
 returns c = search needs
 
@@ -43,6 +46,12 @@ if-at-requires c κs = search needs
 
 if-at-requires-2 : tie.Need-if-at-requires-2 Inv-loop μ-loop
 if-at-requires-2 c κs = search needs
+
+if-at-requires-3 : tie.Need-if-at-requires-3 Inv-loop μ-loop
+if-at-requires-3 c κs = search needs
+
+if-at-requires-4 : tie.Need-if-at-requires-4 Inv-loop μ-loop
+if-at-requires-4 c κs = search needs
 
 add-n : tie.Need-add-n Inv-loop μ-loop
 add-n c = search needs
@@ -70,9 +79,12 @@ numbers-spec =
     part-parse-end
     parse-requires
     enum-known-x
+    no-numbers-requires
     returns
     if-at-requires
     if-at-requires-2
+    if-at-requires-3
+    if-at-requires-4
     add-n
     loop-less
     loop-again

@@ -1,9 +1,9 @@
--- `console::line::same` is safe and ends. `i` goes over both texts, which are equally long. Assumes nothing.
+-- `console_text::line::same` is safe and ends. `i` goes over both texts, which are equally long. Assumes nothing.
 use borrow.Author.Needs.{needs}
 use Prim.Native.Nat.{_≤_, _-_}
 use lib.ListN.{length}
-use Rattle.console.proofs.line.same.Statement.{statement}
-use Rattle.console.proofs.line.same.Tie as tie
+use Rattle.console_text.proofs.line.same.Statement.{statement}
+use Rattle.console_text.proofs.line.same.Tie as tie
 
 abbrev Inv-loop : tie.InvT-loop
 Inv-loop a b i₀ i = i ≤ length a

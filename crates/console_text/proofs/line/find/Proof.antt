@@ -1,9 +1,9 @@
--- `console::line::find` is safe and ends. `i` goes from `from` to the end. Assumes nothing.
+-- `console_text::line::find` is safe and ends. `i` goes from `from` to the end. Assumes nothing.
 use borrow.Author.Needs.{needs}
 use Prim.Native.Nat.{_≤_, _-_}
 use lib.ListN.{length}
-use Rattle.console.proofs.line.find.Statement.{statement}
-use Rattle.console.proofs.line.find.Tie as tie
+use Rattle.console_text.proofs.line.find.Statement.{statement}
+use Rattle.console_text.proofs.line.find.Tie as tie
 
 abbrev Inv-loop : tie.InvT-loop
 Inv-loop text from b i₀ i = (from ≤ i) × (i ≤ length text)

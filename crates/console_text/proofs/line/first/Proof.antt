@@ -1,9 +1,9 @@
--- `console::line::first` is safe. Assumes nothing.
+-- `console_text::line::first` is safe. Assumes nothing.
 use mathlib.Core.Path.{sym}
 use lib.Seq.{length-take-le}
 use borrow.Author.Needs.{needs}
-use Rattle.console.proofs.line.first.Statement.{statement}
-use Rattle.console.proofs.line.first.Tie as tie
+use Rattle.console_text.proofs.line.first.Statement.{statement}
+use Rattle.console_text.proofs.line.first.Tie as tie
 
 slice-aggregate-result : tie.Need-slice-aggregate-result
 slice-aggregate-result c = sym (length-take-le _ _ (search needs))

@@ -1,9 +1,9 @@
--- `console::output::send` is safe. Assumes nothing.
+-- `console_text::output::send` is safe. Assumes nothing.
 use mathlib.Core.Path.{sym}
 use lib.Seq.{length-take-le}
 use borrow.Author.Needs.{needs}
-use Rattle.console.proofs.output.send.Statement.{statement}
-use Rattle.console.proofs.output.send.Tie as tie
+use Rattle.console_text.proofs.output.send.Statement.{statement}
+use Rattle.console_text.proofs.output.send.Tie as tie
 
 slice-aggregate-write-all : tie.Need-slice-aggregate-write-all
 slice-aggregate-write-all c = sym (length-take-le _ _ (search needs))

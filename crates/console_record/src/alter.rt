@@ -1,0 +1,83 @@
+// The commands that write into the lent words.
+use crate::Record;
+use crate::Told;
+use console_text::line;
+use console_text::line::Arguments;
+use console_text::output::Reply;
+use elias_fano::builder;
+use elias_fano::builder::Built;
+use elias_fano::builder::Pushed;
+
+// A builder that is handed back is held from then on.
+fn pushed(p: Pushed, s: Record) -> Told {
+    match p {
+        Pushed::Accepted(b) => Told {
+            reply: Reply::Done,
+            record: Record {
+                lent: s.lent,
+                image: s.image,
+                builder: b,
+            },
+        },
+        Pushed::Refused(r) => Told {
+            reply: Reply::Refused(r),
+            record: s,
+        },
+    }
+}
+
+// The words of a finish are the image from then on.
+fn built(b: Built, s: Record) -> Told {
+    let mut t = s;
+    match b {
+        Built::Words(n) => {
+            t.image = n;
+            Told {
+                reply: Reply::Value(line::wide(n)),
+                record: t,
+            }
+        }
+        Built::Refused(r) => Told {
+            reply: Reply::Refused(r),
+            record: s,
+        },
+    }
+}
+
+// `poke I V`
+fn poke(words: &mut [u64], i: usize, x: u64, s: Record) -> Told {
+    if i < words.len() {
+        words[i] = x;
+        return Told {
+            reply: Reply::Done,
+            record: s,
+        };
+    }
+    Told {
+        reply: Reply::Bad,
+        record: s,
+    }
+}
+
+// `poke` 5, `start` 6, `reading` 7, `finish` 8.
+fn answer(k: usize, r: Arguments, words: &mut [u64], s: Record) -> Told {
+    let b = s.builder;
+    match k {
+        5 => poke(words, line::size(r.a), r.b, s),
+        6 => pushed(builder::new(r.a, r.b, words), s),
+        7 => pushed(builder::push(b, r.a, words), s),
+        _ => built(builder::build(b, r.a == 1, words), s),
+    }
+}
+
+// The same over the whole buffer, of which the first words are lent.
+pub fn within(k: usize, r: Arguments, buffer: &mut [u64], s: Record) -> Told {
+    let n = s.lent;
+    if buffer.len() < n {
+        return Told {
+            reply: Reply::Bad,
+            record: s,
+        };
+    }
+    answer(k, r, &mut buffer[..n], s)
+}

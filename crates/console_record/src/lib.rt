@@ -1,0 +1,78 @@
+// The console's section Record: a lent buffer, a builder, and how many of the buffer's first words are the image.
+mod alter;
+mod ask;
+mod hold;
+pub mod show;
+
+use console_text::line;
+use console_text::line::Arguments;
+use console_text::output::Reply;
+use elias_fano::builder::Builder;
+
+// What is held besides the buffer's words: how many of them are lent, how many of these are the image, and the builder.
+pub struct Record {
+    pub lent: usize,
+    pub image: usize,
+    pub builder: Builder,
+}
+
+// The answer, and what is held from then on.
+pub struct Told {
+    pub reply: Reply,
+    pub record: Record,
+}
+
+// Before the first `buffer`.
+pub fn nothing() -> Record {
+    hold::of(0)
+}
+
+// How many numbers each command takes, and which of them is a choice, in the order of the list in `answer`.
+fn fits(k: usize, r: Arguments) -> bool {
+    match k {
+        0 => r.n == 4,
+        2 => r.n == 0,
+        1 | 3 | 7 => r.n == 1,
+        8 => r.n == 1 && r.a < 2,
+        _ => r.n == 2,
+    }
+}
+
+// What is held is set, asked or written into.
+fn done(k: usize, r: Arguments, buffer: &mut [u64], s: Record) -> Told {
+    if k < 2 {
+        return hold::answer(k, r, s);
+    }
+    if k < 4 {
+        let image = line::first(buffer, s.image);
+        return Told {
+            reply: ask::answer(k, r.a, image),
+            record: s,
+        };
+    }
+    if k == 4 {
+        return hold::lend(buffer, line::size(r.a), r.b, s);
+    }
+    alter::within(k, r, buffer, s)
+}
+
+// A command that takes a few numbers and has one answer.
+pub fn answer(name: &[u8], r: Arguments, buffer: &mut [u64], s: Record) -> Told {
+    let k = line::place_in(
+        b"forge image open select buffer poke start reading finish",
+        name,
+    );
+    if 8 < k {
+        return Told {
+            reply: Reply::Unknown,
+            record: s,
+        };
+    }
+    if fits(k, r) {
+        return done(k, r, buffer, s);
+    }
+    Told {
+        reply: Reply::Bad,
+        record: s,
+    }
+}
