@@ -1,6 +1,7 @@
 //! Times the port beside the crate sucds on the same words, compares what they answer, and prints a table.
 
 mod port;
+mod record;
 mod rust;
 mod table;
 
@@ -8,7 +9,10 @@ use std::hint::black_box;
 
 use sucds::bit_vectors::BitVector;
 
+use record::Record;
 use table::Table;
+
+const SEED: u64 = 0x9E37_79B9_7F4A_7C15;
 
 /// How often all rows are run: what else the machine does slows some rounds and not others.
 const ROUNDS: usize = 8;
@@ -172,7 +176,7 @@ fn index(table: &mut Table, b: &Bits, over_one: bool, queries: usize, random: &m
 }
 
 fn round(table: &mut Table) {
-    let random = &mut Random(0x9E37_79B9_7F4A_7C15);
+    let random = &mut Random(SEED);
     for (name, rarity) in [("half ones", 2), ("ones 1 in 64", 64)] {
         in_words(table, &Bits::new(name, 1 << 20, rarity, random), random);
     }
@@ -202,8 +206,16 @@ fn round(table: &mut Table) {
 
 fn main() {
     let mut table = Table::default();
+    let random = &mut Random(SEED);
+    let records: Vec<Record> = [1000, 100_000, 1_000_000, 16_777_216]
+        .into_iter()
+        .filter_map(|n| Record::new(n, random))
+        .collect();
     for _ in 0..ROUNDS {
         round(&mut table);
+        for record in &records {
+            record.rows(&mut table);
+        }
     }
     table.print();
 }

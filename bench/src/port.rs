@@ -47,6 +47,24 @@ mod c {
             ks: *const usize,
             j: usize,
         ) -> u64;
+        pub fn bench_record_push(
+            universe: u64,
+            num_vals: u64,
+            times: *const u64,
+            n: usize,
+            buffer: *mut u64,
+            m: usize,
+        ) -> u64;
+        pub fn bench_record_build(
+            universe: u64,
+            num_vals: u64,
+            last: u64,
+            rank: bool,
+            buffer: *mut u64,
+            n: usize,
+        ) -> u64;
+        pub fn bench_record_open(image: *const u64, n: usize) -> u64;
+        pub fn bench_record_select(image: *const u64, n: usize, ks: *const usize, m: usize) -> u64;
     }
 }
 
@@ -126,4 +144,47 @@ pub unsafe fn select(
         ks.as_ptr(),
         ks.len(),
     )
+}
+
+/// How many of the times a fresh record took.
+pub fn record_push(universe: u64, times: &[u64], buffer: &mut [u64]) -> u64 {
+    unsafe {
+        c::bench_record_push(
+            universe,
+            times.len() as u64,
+            times.as_ptr(),
+            times.len(),
+            buffer.as_mut_ptr(),
+            buffer.len(),
+        )
+    }
+}
+
+/// How many words the image of a full record has; 0 where it is refused.
+pub fn record_build(
+    universe: u64,
+    num_vals: usize,
+    last: u64,
+    rank: bool,
+    buffer: &mut [u64],
+) -> usize {
+    unsafe {
+        c::bench_record_build(
+            universe,
+            num_vals as u64,
+            last,
+            rank,
+            buffer.as_mut_ptr(),
+            buffer.len(),
+        ) as usize
+    }
+}
+
+/// How many times an image holds; 0 where it is refused.
+pub fn record_open(image: &[u64]) -> u64 {
+    unsafe { c::bench_record_open(image.as_ptr(), image.len()) }
+}
+
+pub fn record_select(image: &[u64], ks: &[usize]) -> u64 {
+    unsafe { c::bench_record_select(image.as_ptr(), image.len(), ks.as_ptr(), ks.len()) }
 }

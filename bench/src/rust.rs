@@ -4,6 +4,7 @@ use sucds::bit_vectors::darray::inner::DArrayIndex;
 use sucds::bit_vectors::prelude::*;
 use sucds::bit_vectors::BitVector;
 use sucds::broadword;
+use sucds::mii_sequences::{EliasFano, EliasFanoBuilder};
 
 fn total(places: impl Iterator<Item = usize>) -> u64 {
     places.fold(0, |sum: u64, p| sum.wrapping_add(p as u64))
@@ -74,4 +75,61 @@ pub fn index_words(index: &DArrayIndex) -> Vec<u64> {
         .chain(lanes)
         .chain(index.overflow_positions.iter().copied())
         .collect()
+}
+
+#[inline(never)]
+pub fn record_push(universe: u64, times: &[u64]) -> EliasFanoBuilder {
+    let mut b = EliasFanoBuilder::new(universe, times.len()).expect("some times");
+    for &t in times {
+        b.push(t).expect("times in order below the universe");
+    }
+    b
+}
+
+/// The builder can be used up once.
+pub fn copy(b: &EliasFanoBuilder) -> EliasFanoBuilder {
+    EliasFanoBuilder {
+        high_bits: b.high_bits.clone(),
+        low_bits: b.low_bits.clone(),
+        ..*b
+    }
+}
+
+#[inline(never)]
+pub fn record_build(b: EliasFanoBuilder, rank: bool) -> EliasFano {
+    let ef = b.build();
+    if rank {
+        ef.enable_rank()
+    } else {
+        ef
+    }
+}
+
+#[inline(never)]
+pub fn record_select(ef: &EliasFano, ks: &[usize]) -> u64 {
+    let time = |&k: &usize| ef.select(k).unwrap_or(ef.universe()) as usize;
+    total(ks.iter().map(time))
+}
+
+/// The record as the port writes it: the header, the high words, the low words, the indexes. The Rust does not keep the declared count.
+pub fn image_words(ef: &EliasFano, declared: usize) -> Vec<u64> {
+    let high = &ef.high_bits;
+    let zeros = high.s0_index();
+    let overflow = |index: &DArrayIndex| index.overflow_positions.len() as u64;
+    let header = [
+        ef.universe(),
+        declared as u64,
+        ef.len() as u64,
+        u64::from(ef.has_rank()),
+        overflow(high.s1_index()),
+        zeros.map_or(0, overflow),
+    ];
+    [
+        &header[..],
+        high.bit_vector().words(),
+        ef.low_bits.words(),
+        &index_words(high.s1_index()),
+        &zeros.map_or(vec![], index_words),
+    ]
+    .concat()
 }

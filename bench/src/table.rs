@@ -3,11 +3,14 @@
 use std::hint::black_box;
 use std::time::Instant;
 
-/// Repeats of a row in a round. A repeat runs the Rust, then the port.
+/// Repeats of a row in a round, after the first. A repeat runs the Rust, then the port.
 const REPEATS: usize = 30;
 
 /// What a repeat takes at least, in nanoseconds: short calls are run several times.
 const AT_LEAST: f64 = 2.5e5;
+
+/// What all repeats take at most: long calls are repeated less often.
+const AT_MOST: f64 = 5e8;
 
 struct Row {
     what: String,
@@ -15,6 +18,7 @@ struct Row {
     target: Option<f64>,
     rust: f64,
     port: f64,
+    port_before: f64,
 }
 
 #[derive(Default)]
@@ -23,51 +27,107 @@ pub struct Table {
 }
 
 /// The words on the command line pick the rows that have them all.
-fn is_asked(what: &str) -> bool {
+pub fn is_asked(what: &str) -> bool {
     std::env::args().skip(1).all(|word| what.contains(&word))
 }
 
-fn nanoseconds<T>(calls: usize, f: &mut impl FnMut() -> T) -> f64 {
-    let start = Instant::now();
-    for _ in 0..calls {
-        black_box(f());
+/// Runs something so many times, and gives the nanoseconds of one.
+type Timed<'a> = &'a mut dyn FnMut(usize) -> f64;
+
+fn timed<T>(mut f: impl FnMut() -> T) -> impl FnMut(usize) -> f64 {
+    move |calls| {
+        let start = Instant::now();
+        for _ in 0..calls {
+            black_box(f());
+        }
+        start.elapsed().as_nanos() as f64 / calls as f64
     }
-    start.elapsed().as_nanos() as f64 / calls as f64
+}
+
+/// Each call uses up an input. The clock stands while inputs are made and what the calls give is dropped.
+fn timed_with<A, T>(
+    mut input: impl FnMut() -> A,
+    mut f: impl FnMut(A) -> T,
+) -> impl FnMut(usize) -> f64 {
+    move |calls| {
+        let inputs: Vec<A> = (0..calls).map(|_| input()).collect();
+        let mut given = Vec::with_capacity(calls);
+        let start = Instant::now();
+        for a in inputs {
+            given.push(black_box(f(black_box(a))));
+        }
+        start.elapsed().as_nanos() as f64 / calls as f64
+    }
 }
 
 impl Table {
+    /// Keeps the best of the Rust, of the port, and of what the port does before, which is taken off its time.
+    fn keep(&mut self, what: &str, items: usize, target: Option<f64>, mut sides: [Timed; 3]) {
+        if !is_asked(what) {
+            return;
+        }
+        let mut best = sides.each_mut().map(|side| side(1));
+        let calls = (AT_LEAST / best[0].max(best[1])).ceil();
+        let repeats = (AT_MOST / (calls * best.iter().sum::<f64>())) as usize;
+        for _ in 0..repeats.min(REPEATS) {
+            for (best, side) in best.iter_mut().zip(&mut sides) {
+                *best = best.min(side(calls as usize));
+            }
+        }
+        let [rust, port, port_before] = best;
+        match self.rows.iter_mut().find(|row| row.what == what) {
+            Some(row) => {
+                row.rust = row.rust.min(rust);
+                row.port = row.port.min(port);
+                row.port_before = row.port_before.min(port_before);
+            }
+            None => self.rows.push(Row {
+                what: what.to_string(),
+                items,
+                target,
+                rust,
+                port,
+                port_before,
+            }),
+        }
+    }
+
     /// Times both sides, which handle so many items, and keeps the best.
     pub fn row<T, U>(
         &mut self,
         what: &str,
         items: usize,
         target: Option<f64>,
-        mut rust: impl FnMut() -> T,
-        mut port: impl FnMut() -> U,
+        rust: impl FnMut() -> T,
+        port: impl FnMut() -> U,
     ) {
-        if !is_asked(what) {
-            return;
-        }
-        let slower = nanoseconds(1, &mut rust).max(nanoseconds(1, &mut port));
-        let calls = (AT_LEAST / slower).ceil() as usize;
-        let (mut best_rust, mut best_port) = (f64::MAX, f64::MAX);
-        for _ in 0..REPEATS {
-            best_rust = best_rust.min(nanoseconds(calls, &mut rust));
-            best_port = best_port.min(nanoseconds(calls, &mut port));
-        }
-        match self.rows.iter_mut().find(|row| row.what == what) {
-            Some(row) => {
-                row.rust = row.rust.min(best_rust);
-                row.port = row.port.min(best_port);
-            }
-            None => self.rows.push(Row {
-                what: what.to_string(),
-                items,
-                target,
-                rust: best_rust,
-                port: best_port,
-            }),
-        }
+        self.keep(
+            what,
+            items,
+            target,
+            [&mut timed(rust), &mut timed(port), &mut |_| 0.0],
+        );
+    }
+
+    /// The same for sides that use up an input, which is made outside the clock.
+    pub fn row_with<A, B, T, U>(
+        &mut self,
+        what: &str,
+        items: usize,
+        target: Option<f64>,
+        rust: (impl FnMut() -> A, impl FnMut(A) -> T),
+        port: (impl FnMut() -> B, impl FnMut(B) -> U),
+    ) {
+        self.keep(
+            what,
+            items,
+            target,
+            [
+                &mut timed_with(rust.0, rust.1),
+                &mut timed_with(port.0, port.1),
+                &mut |_| 0.0,
+            ],
+        );
     }
 
     /// A row of two functions that give the same sum.
@@ -83,14 +143,34 @@ impl Table {
         self.row(what, items, target, rust, port);
     }
 
+    /// The same for a function of the port that first does something else: what that takes alone is taken off.
+    pub fn same_after(
+        &mut self,
+        what: &str,
+        items: usize,
+        target: Option<f64>,
+        rust: impl Fn() -> u64,
+        port: impl Fn() -> u64,
+        port_before: impl Fn() -> u64,
+    ) {
+        assert_eq!(rust(), port(), "{what}");
+        self.keep(
+            what,
+            items,
+            target,
+            [&mut timed(rust), &mut timed(port), &mut timed(port_before)],
+        );
+    }
+
     pub fn print(&self) {
         println!("| what | Rust, ns | port, ns | port / Rust | target | |");
         println!("|---|---:|---:|---:|---:|---|");
         for row in &self.rows {
-            let (rust, port) = (row.rust / row.items as f64, row.port / row.items as f64);
+            let rust = row.rust / row.items as f64;
+            let port = (row.port - row.port_before) / row.items as f64;
             let ratio = port / rust;
             let (target, verdict) = match row.target {
-                Some(t) => (format!("{t:.1}"), if ratio <= t { "met" } else { "missed" }),
+                Some(t) => (format!("{t:?}"), if ratio <= t { "met" } else { "missed" }),
                 None => (String::new(), ""),
             };
             println!(

@@ -8,6 +8,9 @@ ghost use mathlib.Core.List.{List};
 ghost use Rattle.broadword.specs.Places.{SelectInByte};
 ghost use Rattle.bit_vectors.specs.Walk.{Walking};
 ghost use Rattle.darray.specs.Select.{Indexed};
+
+mod record;
+
 use bit_vectors::Count;
 use bit_vectors::Place;
 use bit_vectors::bit_vector::rank1;

@@ -1,0 +1,155 @@
+//! The rows of the record: a burner's times pushed, built, opened and asked for.
+
+use std::hint::black_box;
+
+use sucds::mii_sequences::{EliasFano, EliasFanoBuilder};
+
+use crate::table::{is_asked, Table};
+use crate::{port, rust, Random};
+
+/// The longest time between two readings, in seconds.
+const LONGEST: usize = 1800;
+
+/// How often an image is asked.
+const QUESTIONS: usize = 1_000_000;
+
+const ROWS: [&str; 5] = [
+    "push",
+    "build",
+    "build with rank",
+    "open with rank",
+    "select",
+];
+
+/// Both sides' record of one list.
+pub struct Record {
+    times: Vec<u64>,
+    last: u64,
+    universe: u64,
+    builder: EliasFanoBuilder,
+    record: EliasFano,
+    pushed: Vec<u64>,
+    image: Vec<u64>,
+    ks: Vec<usize>,
+}
+
+/// Times in order, with gaps of a burner.
+fn burner(n: usize, random: &mut Random) -> Vec<u64> {
+    let gap = |last: &mut u64, _| {
+        *last += random.below(LONGEST + 1) as u64;
+        Some(*last)
+    };
+    (0..n).scan(0, gap).collect()
+}
+
+fn name(row: &str, n: usize) -> String {
+    format!("record {row}, {n} times")
+}
+
+/// The targets are for a million times.
+fn at_a_million(n: usize, target: f64) -> Option<f64> {
+    (n == 1_000_000).then_some(target)
+}
+
+impl Record {
+    /// None where no row is asked for. What both sides write is compared, word for word.
+    pub fn new(n: usize, random: &mut Random) -> Option<Self> {
+        if !ROWS.iter().any(|row| is_asked(&name(row, n))) {
+            return None;
+        }
+        let times = burner(n, random);
+        let last = times[n - 1];
+        let universe = last + 1;
+
+        let builder = rust::record_push(universe, &times);
+        let plain = rust::record_build(rust::copy(&builder), false);
+        let record = rust::record_build(rust::copy(&builder), true);
+        let image = rust::image_words(&record, n);
+
+        let mut pushed = vec![u64::MAX; image.len()];
+        assert_eq!(port::record_push(universe, &times, &mut pushed), n as u64);
+        let (high, low) = (builder.high_bits.words(), builder.low_bits.words());
+        let filed = [&[0; 6], high, low].concat();
+        assert_eq!(pushed[..filed.len()], filed, "push, {n} times");
+        for (record, rank) in [(&plain, false), (&record, true)] {
+            let mut words = pushed.clone();
+            let made = port::record_build(universe, n, last, rank, &mut words);
+            words.truncate(made);
+            assert_eq!(
+                words,
+                rust::image_words(record, n),
+                "rank {rank}, {n} times"
+            );
+        }
+        assert_eq!(port::record_open(&image), n as u64);
+
+        let ks = random.places(QUESTIONS, n);
+        Some(Self {
+            times,
+            last,
+            universe,
+            builder,
+            record,
+            pushed,
+            image,
+            ks,
+        })
+    }
+
+    pub fn rows(&self, table: &mut Table) {
+        let n = self.times.len();
+        let [push, build, build_ranked, open, select] = ROWS.map(|row| name(row, n));
+        let mut buffer = self.pushed.clone();
+        table.row_with(
+            &push,
+            n,
+            at_a_million(n, 0.6),
+            (
+                || (),
+                |()| rust::record_push(self.universe, black_box(&self.times)),
+            ),
+            (
+                || (),
+                |()| port::record_push(self.universe, black_box(&self.times), &mut buffer),
+            ),
+        );
+        let rust_build = |rank| {
+            (
+                || rust::copy(&self.builder),
+                move |b| rust::record_build(b, rank),
+            )
+        };
+        let port_build = |rank| {
+            (
+                || self.pushed.clone(),
+                move |mut words: Vec<u64>| {
+                    port::record_build(self.universe, n, self.last, rank, &mut words);
+                    words
+                },
+            )
+        };
+        table.row_with(&build, n, None, rust_build(false), port_build(false));
+        table.row_with(
+            &build_ranked,
+            n,
+            at_a_million(n, 0.25),
+            rust_build(true),
+            port_build(true),
+        );
+        table.row_with(
+            &open,
+            n,
+            at_a_million(n, 0.1),
+            rust_build(true),
+            (|| (), |()| port::record_open(black_box(&self.image))),
+        );
+        table.same_after(
+            &select,
+            QUESTIONS,
+            at_a_million(n, 1.0),
+            || rust::record_select(black_box(&self.record), &self.ks),
+            || port::record_select(black_box(&self.image), &self.ks),
+            || port::record_select(black_box(&self.image), &[]),
+        );
+    }
+}
