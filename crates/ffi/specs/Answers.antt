@@ -19,9 +19,12 @@ ofBuilder b = builder (b .universe) (b .«num_vals») (b .«num_pushed») (b .la
 abbrev pub ofRefusal : ℕ → Answer
 ofRefusal k = pick (eqb k 0) done (refused k)
 
--- the kinds 0, 1 and 2
-abbrev pub ofAnswer : EfAnswer → Answer
-ofAnswer r = pick (eqb (r .kind) 0) (value (r .value)) (pick (eqb (r .kind) 1) none (refused (r .value)))
+-- the kinds 0, 1 and 2 with a value, 0, or a refusal's number; no call that answers so is only done
+abbrev pub efAnswer : Answer → EfAnswer
+efAnswer (value k) = record { kind = 0; value = k }
+efAnswer none = record { kind = 1; value = 0 }
+efAnswer (refused k) = record { kind = 2; value = k }
+efAnswer done = record { kind = 3; value = 0 }
 
 -- what an opening says
 unfoldable pub openedOf : List ℕ → ℕ

@@ -3,7 +3,7 @@ ghost use mathlib.Core.Path.{_≡_};
 ghost use Rattle.elias_fano.specs.Accept.{selectOf};
 ghost use Rattle.elias_fano.specs.Made.{made};
 ghost use Rattle.elias_fano.specs.Steps.{newOf, pushOf, buildOf};
-ghost use Rattle.ffi.specs.Answers.{ofBuilder, ofRefusal, ofAnswer, openedOf, Told};
+ghost use Rattle.ffi.specs.Answers.{ofBuilder, ofRefusal, efAnswer, openedOf, Told};
 use elias_fano::builder;
 use elias_fano::builder::Builder;
 use elias_fano::builder::Built;
@@ -107,7 +107,7 @@ pub extern "C" fn ef_push(b: EfBuilder, val: u64, buffer: &mut [u64]) -> EfPushe
 // Makes an image of the words: its length, or a refusal.
 #[no_mangle]
 pub extern "C" fn ef_build(b: EfBuilder, rank: bool, buffer: &mut [u64]) -> EfAnswer
-    ensures { λ r. ⌜ made (ofAnswer r) (ofBuilder b) (now (buffer .exit)) ≡ buildOf (ofBuilder b) rank (now (buffer .entry)) ⌝ }
+    ensures { λ r. ⌜ ((r ≡ efAnswer (buildOf (ofBuilder b) rank (now (buffer .entry)) .answer)) × (now (buffer .exit) ≡ buildOf (ofBuilder b) rank (now (buffer .entry)) .words)) ⌝ }
 {
     match builder::build(inner(b), rank, &mut *buffer) {
         Built::Words(k) => EfAnswer {
@@ -135,7 +135,7 @@ pub extern "C" fn ef_open(words: &[u64]) -> u64
 // The value with the number k.
 #[no_mangle]
 pub extern "C" fn ef_select(words: &[u64], k: usize) -> EfAnswer
-    ensures { λ r. ⌜ ofAnswer r ≡ selectOf (now (words .entry)) k ⌝ }
+    ensures { λ r. ⌜ r ≡ efAnswer (selectOf (now (words .entry)) k) ⌝ }
 {
     match image::select(words, k) {
         Value::Is(t) => EfAnswer {

@@ -1,6 +1,8 @@
 -- `ffi::ef_select` meets its contract.
 -- Assumes nothing.
 use borrow.Author.Needs.{needs}
+use mathlib.Core.Path.{ap}
+use Rattle.ffi.specs.Answers.{efAnswer}
 use Rattle.ffi.proofs.Telling as telling
 use Rattle.ffi.proofs.ef_select.Statement.{statement}
 use Rattle.ffi.proofs.ef_select.Tie as tie
@@ -21,13 +23,13 @@ number-requires : tie.Need-number-requires
 number-requires c κs = search needs
 
 returns : tie.Need-returns
-returns c = telling.value-told _ _ (c .before .before .before .select .ensures) _ (c .before .t .given .1)
+returns c = ap efAnswer (telling.value-told _ _ (c .before .before .before .select .ensures) _ (c .before .t .given .1))
 
 returns-2 : tie.Need-returns-2
-returns-2 c = telling.none-told _ _ (c .before .before .select .ensures) (c .enum-told .given .1)
+returns-2 c = ap efAnswer (telling.none-told _ _ (c .before .before .select .ensures) (c .enum-told .given .1))
 
 returns-3 : tie.Need-returns-3
-returns-3 c = telling.no-value-told _ _ (c .before .before .before .before .select .ensures) _ _ (c .before .before .e .given .1) (c .number .ensures)
+returns-3 c = ap efAnswer (telling.no-value-told _ _ (c .before .before .before .before .select .ensures) _ _ (c .before .before .e .given .1) (c .number .ensures))
 
 pub ef-select-spec : {M : Type 1} → statement M
 ef-select-spec =
