@@ -1,4 +1,4 @@
--- What the inner functions of `words` find, as facts. Assumes nothing.
+-- What the inner functions of this crate demand and find, as facts. Assumes nothing.
 use mathlib.Core.Path.{_≡_}
 use mathlib.Core.List.{List}
 use Prim.Native.Nat.{ℕ, suc, _+_, _*_, _/_, _%_, _^_, _≤_, _<_}

@@ -1,5 +1,5 @@
 -- The parts of the image of a list: how long each is, and where it stands. Assumes nothing.
-use mathlib.Core.Path.{_≡_, refl, sym, ap, ap₂, _∙_, subst}
+use mathlib.Core.Path.{_≡_, refl, sym, ap, ap₂, _∙_}
 use mathlib.Core.List.{List, [], _++_, append-assoc}
 use mathlib.Core.Bool.{Bool, true, false}
 use Prim.Native.Nat.{ℕ, zero, suc, _+_, _-_, _*_, _≤_}
@@ -16,7 +16,7 @@ use Rattle.bit_words.proofs.Overwrite.{length-numberWords}
 use Rattle.bit_words.proofs.Runs.{bitAt-le, bitOver-le}
 use Rattle.darray.specs.Index.{blocks, lanes, laneWords, indexWords}
 use Rattle.darray.specs.Positions.{positions}
-use Rattle.darray.proofs.Index.{length-overflow, length-index, before-le}
+use Rattle.darray.proofs.Index.{length-overflow, length-index}
 use Rattle.darray.proofs.Positions.{length-places}
 use Rattle.elias_fano_words.specs.Sizes.{lowLen, highLen}
 use Rattle.elias_fano_words.specs.Image.{lowNumber, spilled, highWords, lowWords, highPositions, image}
@@ -32,9 +32,6 @@ use Rattle.elias_fano.proofs.Images.{Fits, image-body, image-ranked}
 pub index-length : (P : List ℕ) → length (indexWords P) ≡ indexLen (length P) (spilled P)
 unfolding blocks lanes laneWords
 index-length P = length-index P ∙ ap (λ (x : ℕ). blocks P + laneWords P + x) (sym (length-overflow P (blocks P)))
-
-pub spilled-le : (P : List ℕ) → spilled P ≤ length P
-spilled-le P = subst (λ (x : ℕ). x ≤ length P) (sym (length-overflow P (blocks P))) (before-le P (blocks P))
 
 -- ones and zeros are all bits
 both : (ws : List ℕ) (n : ℕ) → count (bitOver true ws) n + count (bitOver false ws) n ≡ n
@@ -69,9 +66,6 @@ flag-le false = omega arith
 
 none-picked : (c : Bool) (x : ℕ) → c ≡ false → pick c x 0 ≡ 0
 none-picked c x e = rw e
-
-pick-same : (c : Bool) (a b : ℕ) → a ≡ b → pick c a 0 ≡ pick c b 0
-pick-same c a b e = ap (λ (x : ℕ). pick c x 0) e
 
 module _ (u n : ℕ) (c : Bool) (T : List ℕ) (f : Fits u n T) where
   abbrev I : List ℕ

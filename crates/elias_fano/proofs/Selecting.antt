@@ -20,9 +20,8 @@ use Rattle.darray.specs.Index.{indexWords}
 use Rattle.darray.specs.Positions.{positions}
 use Rattle.darray.specs.Select.{Indexed}
 use Rattle.darray.proofs.Index.{length-table}
-use Rattle.elias_fano_words.specs.Checks.{Held}
+use Rattle.elias_fano_words.specs.Checks.{Held, lowBits}
 use Rattle.elias_fano_words.specs.Image.{highWords, lowNumber}
-use Rattle.elias_fano_words.specs.Ordered.{lowBits}
 use Rattle.elias_fano_words.specs.Sizes.{lowLen, highLen}
 use Rattle.elias_fano_words.specs.Times.{timesIn}
 use Rattle.elias_fano_words.proofs.Bounds as bounds

@@ -10,7 +10,8 @@ use Rattle.broadword.specs.Places.{orElse}
 use Rattle.broadword.specs.declared.Found.{Found}
 use Rattle.broadword.proofs.Count.{bit-above}
 use Rattle.broadword.proofs.Find.{last-at, last-none}
-use Rattle.elias_fano_words.specs.Sizes.{Highest, lowLen}
+use Rattle.elias_fano_words.specs.Checks.{Highest}
+use Rattle.elias_fano_words.specs.Sizes.{lowLen}
 
 pub highest-is : (x : ℕ) → 0 < x → x < 2 ^ 64 → Highest x (63 - leadingZeros 64 x)
 highest-is x h l =

@@ -26,8 +26,8 @@ use Rattle.elias_fano_words.specs.declared.check.Checked.{Checked}
 use Rattle.elias_fano_words.specs.declared.check.Checked.the-variants as checked
 use Rattle.elias_fano_words.specs.Sizes.{lowLen, highLen}
 use Rattle.elias_fano_words.specs.Times.{lastOf, timeIn, timesIn, holds}
-use Rattle.elias_fano_words.specs.Ordered.{lowBits, InOrder, Clear, Ordered}
-use Rattle.elias_fano_words.specs.Checks.{Held, LastOne, timeAt, Filled, Checkable}
+use Rattle.elias_fano_words.specs.Checks.{lowBits, InOrder, Clear, Held, LastOne, timeAt, Filled, Checkable}
+use Rattle.elias_fano_words.proofs.Ordering.{Ordered}
 use Rattle.elias_fano_words.proofs.Bitwise.{count-one}
 use Rattle.elias_fano_words.proofs.Bounds as bounds
 use Rattle.elias_fano_words.proofs.Holds as held

@@ -26,7 +26,7 @@ use Rattle.darray.proofs.Index.{length-table, getD-table}
 use Rattle.elias_fano_words.specs.Sizes.{lowLen, highLen}
 use Rattle.elias_fano_words.specs.Image.{highFrom, lowNumber, highWords}
 use Rattle.elias_fano_words.specs.Times.{rising, lastOf, bitWords, timeIn, timesIn}
-use Rattle.elias_fano_words.specs.Ordered.{lowBits, Clear}
+use Rattle.elias_fano_words.specs.Checks.{lowBits, Clear}
 use Rattle.elias_fano_words.proofs.Rising.{rising-induction, rising-lt, lastOf-snoc}
 use Rattle.elias_fano_words.proofs.Encode.{high-lt}
 use Rattle.elias_fano_words.proofs.Ones.{placeOf, ones-of}

@@ -32,7 +32,8 @@ use Rattle.darray.proofs.Positions.{place-has, place-select, place-rises}
 use Rattle.elias_fano_words.specs.Sizes.{lowLen, highLen}
 use Rattle.elias_fano_words.specs.Image.{highFrom, lowNumber, highWords}
 use Rattle.elias_fano_words.specs.Times.{rising, bitWords, timeIn, timesIn, holds}
-use Rattle.elias_fano_words.specs.Ordered.{lowBits, InOrder, Ordered}
+use Rattle.elias_fano_words.specs.Checks.{lowBits, InOrder}
+use Rattle.elias_fano_words.proofs.Ordering.{Ordered}
 use Rattle.elias_fano_words.proofs.Rising.{and-true, true-and, rising-lt, rising-le, rising-pairs}
 use Rattle.elias_fano_words.proofs.Encode.{low-lt}
 use Rattle.elias_fano_words.proofs.Ones.{placeOf}

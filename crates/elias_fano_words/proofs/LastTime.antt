@@ -22,8 +22,7 @@ use Rattle.bit_words.proofs.Last.{not-one, no-bits}
 use Rattle.bit_words.proofs.Runs.{Fit, bitAt-le, bitAt-word, rank-le}
 use Rattle.elias_fano_words.specs.declared.check.Checked.{Checked}
 use Rattle.elias_fano_words.specs.declared.check.Checked.the-variants as checked
-use Rattle.elias_fano_words.specs.Ordered.{lowBits}
-use Rattle.elias_fano_words.specs.Checks.{Held, LastOne, timeAt}
+use Rattle.elias_fano_words.specs.Checks.{lowBits, Held, LastOne, timeAt}
 use Rattle.elias_fano_words.proofs.Holds.{low-bits-lt}
 use Rattle.elias_fano_words.proofs.Unset as unset
 

@@ -8,6 +8,7 @@ pub mod Holds
 pub mod LastTime
 pub mod Marks
 pub mod Ones
+pub mod Ordering
 pub mod Pairs
 pub mod Reading
 pub mod Rising

@@ -8,14 +8,11 @@ use Prim.Native.Nat.{ℕ, suc, _+_, _*_, _/_, _%_, _^_, _≤_, _<_}
 use native.Mathlib.Nat.{le-refl, lt-of-lt-of-le, not-suc-le-zero, eq-or-lt-of-le, le-of-suc-le-suc, le-of-lt, le-dest}
 use native.Mathlib.Omega.{arith}
 use lib.ListN.{length, getD, List·getD-append}
-use lib.Seq.{getD-append-seam, ext-getD}
+use lib.Seq.{getD-append-seam}
 use lib.Pow.{pow-pos, pow-mono, shr-mono, high, low}
 use Rattle.broadword.specs.Bits.{bit, count}
-use Rattle.broadword.proofs.Count.{bit-le, bit-above, bit-mod, count-same, count-zero, count-add}
-use Rattle.darray.specs.Index.{table}
-use Rattle.darray.specs.Positions.{places}
-use Rattle.darray.proofs.Index.{length-table, getD-table}
-use Rattle.darray.proofs.Positions.{below, length-places, place-is}
+use Rattle.broadword.proofs.Count.{bit-above, bit-mod, count-same, count-zero, count-add}
+use Rattle.darray.proofs.Positions.{below}
 use Rattle.elias_fano_words.specs.Image.{highFrom}
 use Rattle.elias_fano_words.specs.Times.{rising, lastOf}
 use Rattle.elias_fano_words.proofs.Rising.{rising-induction, lastOf-snoc}
@@ -126,14 +123,3 @@ module _ (l u : ℕ) where
 
   pub ones-of : (T : List ℕ) → rising u 0 T ≡ true → Ones l T
   ones-of = rising-induction u (Ones l) none (λ T t o r a b. more T t o r a)
-
-  -- the places of the ones, where all of them are below N
-  pub encode-places : (T : List ℕ) (N : ℕ) → rising u 0 T ≡ true → lastOf T / 2 ^ l + length T ≤ N → places (bit (highFrom l 0 T)) N ≡ table (placeOf l T) (length T)
-  encode-places T N r g =
-      let f : ℕ → ℕ = bit (highFrom l 0 T) in
-      let o = ones-of T r in
-      let n : length (places f N) ≡ length T = length-places f (bit-le (highFrom l 0 T)) N ∙ o .all N g in
-      ext-getD 0 (places f N) (table (placeOf l T) (length T)) (n ∙ sym (length-table (placeOf l T) (length T))) (λ k h.
-      let m : k < length T = omega arith in
-      place-is f (bit-le (highFrom l 0 T)) N k (placeOf l T k) (o .one k m) (o .before k m) (let c = o .all N g in omega arith)
-      ∙ sym (getD-table (placeOf l T) (length T) k m))

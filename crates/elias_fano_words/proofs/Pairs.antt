@@ -14,8 +14,7 @@ use Rattle.broadword.proofs.Count.{bit-le, bit-mod, bit-shift, bit-above, count
 use Rattle.bit_words.specs.Vector.{bitAt}
 use Rattle.bit_words.proofs.Runs.{Fit, bitAt-word, count-word, count-next}
 use Rattle.bit_words.proofs.Windows.{two-words, window-or}
-use Rattle.elias_fano_words.specs.Checks.{Held, Rises, Each}
-use Rattle.elias_fano_words.specs.Ordered.{InOrder}
+use Rattle.elias_fano_words.specs.Checks.{Held, Rises, Each, InOrder}
 use Rattle.elias_fano_words.proofs.Bitwise.{count-suc}
 use Rattle.elias_fano_words.proofs.Unset.{bit-past}
 

@@ -18,8 +18,7 @@ use Rattle.bit_words.specs.Vector.{bitAt}
 use Rattle.bit_words.proofs.Runs.{Fit, bit-digit-1, bitAt-le, bitAt-word}
 use Rattle.bit_words.proofs.Windows.{number-bits, two-words, window-or}
 use Rattle.bit_words.proofs.Packed.{one-shl}
-use Rattle.elias_fano_words.specs.Checks.{Held}
-use Rattle.elias_fano_words.specs.Ordered.{lowBits}
+use Rattle.elias_fano_words.specs.Checks.{Held, lowBits}
 
 -- the low part of a product's first factor gives its low part
 mod-mul : (a b M : ℕ) → (a % M * b) % M ≡ (a * b) % M

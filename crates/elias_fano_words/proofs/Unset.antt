@@ -16,7 +16,7 @@ use Rattle.bit_words.specs.Inner.{Ending}
 use Rattle.bit_words.proofs.Last.{no-bits}
 use Rattle.bit_words.proofs.Runs.{Fit, bitAt-word, getD-past}
 use Rattle.darray.specs.Pending.{Decides}
-use Rattle.elias_fano_words.specs.Ordered.{Clear}
+use Rattle.elias_fano_words.specs.Checks.{Clear}
 
 -- a bit of a word that is 0
 pub bit-zero : (w j : ℕ) → w ≡ 0 → bit w j ≡ 0

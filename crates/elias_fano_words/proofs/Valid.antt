@@ -19,7 +19,7 @@ use Rattle.bit_words.proofs.Valid as valid
 use Rattle.elias_fano_words.specs.Sizes.{lowLen, highLen}
 use Rattle.elias_fano_words.specs.Image.{highFrom, highWords}
 use Rattle.elias_fano_words.specs.Times.{rising}
-use Rattle.elias_fano_words.specs.Ordered.{Clear}
+use Rattle.elias_fano_words.specs.Checks.{Clear}
 use Rattle.elias_fano_words.proofs.Decode.{length-high, clear-high}
 
 pub fit-high : (u n : ℕ) (T : List ℕ) → Fit (highWords u n T)

@@ -1,12 +1,31 @@
--- What the functions of `check` demand and find, inside the crate: no public contract rests on it. Assumes nothing.
+-- What the functions inside the crate demand and find: no public contract rests on it. Assumes nothing.
 use mathlib.Core.Path.{_≡_}
 use mathlib.Core.List.{List}
 use Prim.Native.Nat.{ℕ, suc, _+_, _-_, _*_, _^_, _≤_, _<_}
 use lib.ListN.{length}
 use Rattle.broadword.specs.Bits.{bit, count}
+use Rattle.broadword.specs.Fields.{word}
 use Rattle.bit_words.specs.Vector.{bitAt, wordsFor}
 use Rattle.elias_fano_words.specs.Sizes.{lowLen, highLen}
-use Rattle.elias_fano_words.specs.Ordered.{lowBits, Clear}
+
+-- the highest one of x stands at the place i
+pub record Highest (x i : ℕ) : Type 0 where
+  pub low : 2 ^ i ≤ x
+  pub high : x < 2 ^ (i + 1)
+  pub small : i < 64
+
+-- the l low bits with the number k
+abbrev pub lowBits : ℕ → List ℕ → ℕ → ℕ
+lowBits l low k = word 1 (λ i. bitAt low (k * l + i)) l
+
+-- the low bits of neighbouring ones, whose times have the same high bits, do not fall
+abbrev pub InOrder : ℕ → List ℕ → List ℕ → Type 0
+InOrder l high low =
+    (i : ℕ) → bitAt high i ≡ 1 → bitAt high (suc i) ≡ 1 → lowBits l low (count (bitAt high) i) ≤ lowBits l low (suc (count (bitAt high) i))
+
+-- no bit is set from the place p on
+abbrev pub Clear : List ℕ → ℕ → Type 0
+Clear ws p = (i : ℕ) → p ≤ i → bitAt ws i ≡ 0
 
 -- some words have the low bits of k times
 pub record Held (l : ℕ) (low : List ℕ) (k : ℕ) : Type 0 where

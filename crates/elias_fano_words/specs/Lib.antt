@@ -1,6 +1,5 @@
 pub mod Checks
 pub mod Image
-pub mod Ordered
 pub mod Rows
 pub mod Sizes
 pub mod Times

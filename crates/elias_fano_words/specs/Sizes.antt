@@ -1,5 +1,5 @@
 -- The sizes of a record, document 01, "The image". u is the universe, n the declared count. Assumes nothing.
-use Prim.Native.Nat.{ℕ, _+_, _*_, _/_, _^_, _≤_, _<_}
+use Prim.Native.Nat.{ℕ, _+_, _*_, _/_, _^_}
 use Rattle.broadword.specs.Bits.{bit}
 use Rattle.broadword.specs.Places.{last, orElse}
 use Rattle.bit_words.specs.Vector.{wordsFor}
@@ -20,9 +20,3 @@ startLen u n = 6 + wordsFor (highLen u n) + wordsFor (n * lowLen u n)
 -- all three
 abbrev pub sizesOf : ℕ → ℕ → Sizes
 sizesOf u n = record { «low_len» = lowLen u n; «high_len» = highLen u n; «start_len» = startLen u n }
-
--- the highest one of x stands at the place i: what a function inside the crate finds
-pub record Highest (x i : ℕ) : Type 0 where
-  pub low : 2 ^ i ≤ x
-  pub high : x < 2 ^ (i + 1)
-  pub small : i < 64

@@ -1,7 +1,8 @@
 // The sizes of a record, from its universe and its declared count. These are inner: they demand a count from 1 to 16,777,216.
 ghost use mathlib.Core.Path.{_≡_};
 ghost use Prim.Native.Nat.{_<_, _≤_};
-ghost use Rattle.elias_fano_words.specs.Sizes.{Highest, lowLen, sizesOf};
+ghost use Rattle.elias_fano_words.specs.Checks.{Highest};
+ghost use Rattle.elias_fano_words.specs.Sizes.{lowLen, sizesOf};
 use bit_words::words_for;
 
 // The most values that a record may declare.
