@@ -17,7 +17,7 @@ use Rattle.broadword.proofs.Count.{count-mono}
 use Rattle.broadword.proofs.Find.{selected}
 use Rattle.bit_words.specs.Vector.{bitOver, wordsFor, invalid}
 use Rattle.bit_vectors.specs.Queries.{ofPlace}
-use Rattle.bit_vectors.specs.Walk.{begun, refusedBy, ofStarted, Step, ofStepped, walkAt, given, newOf, nextOf, Walking}
+use Rattle.bit_vectors.specs.Walk.{begun, refusedBy, ofStarted, Step, ofStepped, walkAt, given, walkNewOf, nextOf, Walking}
 use Rattle.bit_vectors.specs.declared.Place.the-variants as place
 use Rattle.bit_vectors.specs.declared.unary.Unary.{Unary}
 use Rattle.bit_vectors.specs.declared.unary.Stepped.{Stepped}
@@ -64,8 +64,8 @@ module _ (ws : List ℕ) (len : ℕ) where
           let z : _≡_ {A = ℕ} 0 1 = cc in
           absurd (omega arith)
 
-  pub new-keeps : (start : ℕ) (w : Unary) → ofStarted (started.Walk w) ≡ newOf ws len start → Walking ws len w
-  unfolding newOf
+  pub new-keeps : (start : ℕ) (w : Unary) → ofStarted (started.Walk w) ≡ walkNewOf ws len start → Walking ws len w
+  unfolding walkNewOf
   new-keeps start w e = go (invalid ws len) refl
     where
       go : (b : Bool) → invalid ws len ≡ b → Walking ws len w

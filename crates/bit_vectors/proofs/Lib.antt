@@ -1,3 +1,3 @@
-pub mod Ahead
+pub mod OneAhead
 pub mod Cases
 pub mod Steps

@@ -1,11 +1,11 @@
 -- What each call on a bit vector answers and leaves, document 01, "Odd spots" and "Refusals". Assumes nothing.
 use mathlib.Core.List.{List, _++_}
-use mathlib.Core.Bool.{Bool}
+use mathlib.Core.Bool.{Bool, cond}
 use Prim.Native.Nat.{ℕ, _+_, _-_, _*_, _/_, _%_, _^_}
 use lib.Dec.{leb, ltb}
 use lib.ListN.{length, getD, set, take, drop}
 use Rattle.errors.specs.Refusal.{numberOf}
-use Rattle.errors.specs.Answer.{Answer, value, none, done, refused, Outcome, leaves, pick}
+use Rattle.errors.specs.Answer.{Answer, value, none, done, refused, Outcome, leaves}
 use Rattle.broadword.specs.Bits.{count}
 use Rattle.broadword.specs.Fields.{flag, word}
 use Rattle.broadword.specs.Places.{last, select}
@@ -31,9 +31,9 @@ abbrev pub ofAltered : Altered → Answer
 ofAltered altered.Done = done
 ofAltered (altered.Refused e) = refused (numberOf e)
 
-abbrev pub ofPushed : Pushed → Answer
-ofPushed (pushed.Length n) = value n
-ofPushed (pushed.Refused e) = refused (numberOf e)
+abbrev pub ofPushedBits : Pushed → Answer
+ofPushedBits (pushed.Length n) = value n
+ofPushedBits (pushed.Refused e) = refused (numberOf e)
 
 abbrev pub ofWord : Word → Answer
 ofWord (word-answer.Value x) = value x
@@ -65,49 +65,49 @@ ofFound found.Nothing = none
 module _ (ws : List ℕ) (len : ℕ) where
   -- 13 comes first
   unfoldable pub asked : Answer → Answer
-  asked a = pick (invalid ws len) (refused 13) a
+  asked a = cond (invalid ws len) (refused 13) a
 
   unfoldable pub accessOf : ℕ → Answer
-  accessOf pos = asked (pick (ltb pos len) (value (bitAt ws pos)) none)
+  accessOf pos = asked (cond (ltb pos len) (value (bitAt ws pos)) none)
 
   unfoldable pub getBitsOf : ℕ → ℕ → Answer
-  getBitsOf pos width = asked (pick (leb width 64) (pick (leb (pos + width) len) (value (word 1 (λ i. bitAt ws (pos + i)) width)) none) none)
+  getBitsOf pos width = asked (cond (leb width 64) (cond (leb (pos + width) len) (value (word 1 (λ i. bitAt ws (pos + i)) width)) none) none)
 
   -- the 64 bits from pos on: past the used words they are 0
   unfoldable pub getWord64Of : ℕ → Answer
-  getWord64Of pos = asked (pick (ltb pos len) (value (word 1 (λ i. bitAt (take (wordsFor len) ws) (pos + i)) 64)) none)
+  getWord64Of pos = asked (cond (ltb pos len) (value (word 1 (λ i. bitAt (take (wordsFor len) ws) (pos + i)) 64)) none)
 
   unfoldable pub rank1Of : ℕ → Answer
-  rank1Of pos = asked (pick (leb pos len) (value (count (bitAt ws) pos)) none)
+  rank1Of pos = asked (cond (leb pos len) (value (count (bitAt ws) pos)) none)
 
   unfoldable pub numOnesOf : Answer
   numOnesOf = asked (value (count (bitAt ws) len))
 
   -- over the ones (true) or the zeros (false)
-  unfoldable pub selectOf : Bool → ℕ → Answer
-  selectOf b k = asked (ofFound (select (bitOver b ws) len k))
+  unfoldable pub selectBitOf : Bool → ℕ → Answer
+  selectBitOf b k = asked (ofFound (select (bitOver b ws) len k))
 
   unfoldable pub predecessor1Of : ℕ → Answer
-  predecessor1Of pos = asked (pick (ltb pos len) (ofFound (last (bitAt ws) (pos + 1))) none)
+  predecessor1Of pos = asked (cond (ltb pos len) (ofFound (last (bitAt ws) (pos + 1))) none)
 
   -- ---- calls that alter words
 
   unfoldable pub setBitOf : ℕ → Bool → Outcome
   setBitOf pos b =
-      pick (invalid ws len) (leaves (refused 13) ws)
-      (pick (ltb pos len) (leaves done (set ws (pos / 64) (putBit (getD ws (pos / 64) 0) (pos % 64) (flag b)))) (leaves (refused 16) ws))
+      cond (invalid ws len) (leaves (refused 13) ws)
+      (cond (ltb pos len) (leaves done (set ws (pos / 64) (putBit (getD ws (pos / 64) 0) (pos % 64) (flag b)))) (leaves (refused 16) ws))
 
   -- the lowest bits, as many as width says, are pushed
-  unfoldable pub pushOf : ℕ → ℕ → Outcome
-  pushOf bits width =
-      pick (invalid ws len) (leaves (refused 13) ws)
-      (pick (ltb 64 width) (leaves (refused 14) ws)
-      (pick (leb (2 ^ 64) (len + width)) (leaves (refused 15) ws)
-      (pick (ltb (length ws) (wordsFor (len + width))) (leaves (refused 15) ws)
+  unfoldable pub pushBitsOf : ℕ → ℕ → Outcome
+  pushBitsOf bits width =
+      cond (invalid ws len) (leaves (refused 13) ws)
+      (cond (ltb 64 width) (leaves (refused 14) ws)
+      (cond (leb (2 ^ 64) (len + width)) (leaves (refused 15) ws)
+      (cond (ltb (length ws) (wordsFor (len + width))) (leaves (refused 15) ws)
       (leaves (value (len + width)) (appended ws len (bits % 2 ^ width) width)))))
 
 -- the used words are written whole, as the words of 2 ^ len - 1 or of 0
 unfoldable pub fromBitOf : Bool → ℕ → List ℕ → Outcome
 fromBitOf b len ws =
-    pick (ltb (length ws) (wordsFor len)) (leaves (refused 13) ws)
+    cond (ltb (length ws) (wordsFor len)) (leaves (refused 13) ws)
     (leaves done (numberWords (wordsFor len) (flag b * (2 ^ len - 1)) ++ drop (wordsFor len) ws))

@@ -8,8 +8,8 @@ use Rattle.broadword.specs.Bits.{bit, count}
 use Rattle.broadword.specs.Fields.{word}
 use Rattle.broadword.specs.Places.{last, select}
 use Rattle.bit_words.specs.Vector.{bitAt, bitOver, padding, invalid}
-use Rattle.bit_vectors.specs.Queries.{ofFound, asked, getBitsOf, rank1Of, numOnesOf, selectOf, predecessor1Of, setBitOf, pushOf}
-use Rattle.bit_vectors.specs.Walk.{restOf, walkAt, Step, stepOf, nextOf, skip1Of, skip0Of}
+use Rattle.bit_vectors.specs.Queries.{ofFound, asked, getBitsOf, rank1Of, numOnesOf, selectBitOf, predecessor1Of, setBitOf, pushBitsOf}
+use Rattle.bit_vectors.specs.Walk.{restOf, walkAt, Step, walkStepOf, nextOf, skip1Of, skip0Of}
 use Rattle.bit_vectors.specs.declared.unary.Unary.{Unary}
 
 -- a question's answer by its definition, and what document 01 says
@@ -48,8 +48,8 @@ rows =
     ∷ row (rank1Of eleven 4 4) (value 3)
     ∷ row (rank1Of eleven 4 5) none
     -- select0 never reports padding; predecessor1 at or past the length is none
-    ∷ row (selectOf eleven 4 false 0) (value 2)
-    ∷ row (selectOf eleven 4 false 1) none
+    ∷ row (selectBitOf eleven 4 false 0) (value 2)
+    ∷ row (selectBitOf eleven 4 false 1) none
     ∷ row (predecessor1Of eleven 4 2) (value 1)
     ∷ row (predecessor1Of eleven 4 4) none
     -- after `next` gave 0, `skip0(0)` gives 2
@@ -60,12 +60,12 @@ rows =
     ∷ row (nextOf eleven 4 (after (skip1Of eleven 4 fresh 5)) .answer) none
     -- the examples of refusals 13 to 16
     ∷ row (numOnesOf (16 ∷ []) 4) (refused 13)
-    ∷ row (pushOf eleven 4 0 65 .answer) (refused 14)
-    ∷ row (pushOf eleven 64 1 1 .answer) (refused 15)
+    ∷ row (pushBitsOf eleven 4 0 65 .answer) (refused 14)
+    ∷ row (pushBitsOf eleven 64 1 1 .answer) (refused 15)
     ∷ row (setBitOf eleven 4 4 true .answer) (refused 16)
     ∷ []
 
 -- every row's answer is the expected one
 pub rows-right : map (λ (r : Row). r .answer) rows ≡ map (λ (r : Row). r .expected) rows
-unfolding rows bit count word last select bitAt bitOver padding invalid asked getBitsOf rank1Of numOnesOf selectOf predecessor1Of setBitOf pushOf restOf stepOf
+unfolding rows bit count word last select bitAt bitOver padding invalid asked getBitsOf rank1Of numOnesOf selectBitOf predecessor1Of setBitOf pushBitsOf restOf walkStepOf
 rows-right = refl

@@ -2,12 +2,12 @@
 -- given, which ends the walk. A step goes on from `from`: to the one (or the zero) that k of its kind stand before from there on. Assumes nothing.
 use mathlib.Core.Path.{_≡_}
 use mathlib.Core.List.{List}
-use mathlib.Core.Bool.{Bool, true, false}
+use mathlib.Core.Bool.{Bool, true, false, cond}
 use Prim.Native.Nat.{ℕ, _+_, _-_, _*_, _/_, _^_, _≤_}
 use lib.Dec.{leb}
 use lib.ListN.{getD, take}
 use Rattle.errors.specs.Refusal.{numberOf}
-use Rattle.errors.specs.Answer.{Answer, value, none, refused, pick}
+use Rattle.errors.specs.Answer.{Answer, value, none, refused}
 use Rattle.broadword.specs.Bits.{count}
 use Rattle.broadword.specs.Places.{select}
 use Rattle.broadword.specs.declared.Found.{Found}
@@ -27,16 +27,16 @@ abbrev pub walkAt : List ℕ → ℕ → ℕ → ℕ → Unary
 walkAt ws len position from = record { position = position; from = from; buf = restOf ws len position from }
 
 -- how a walk begins: with its state, or with a refusal
-pub data Begun : Type 0 where
-  begun : Unary → Begun
-  refusedBy : ℕ → Begun
+pub data WalkBegun : Type 0 where
+  begun : Unary → WalkBegun
+  refusedBy : ℕ → WalkBegun
 
-abbrev pub ofStarted : Started → Begun
+abbrev pub ofStarted : Started → WalkBegun
 ofStarted (started.Walk w) = begun w
 ofStarted (started.Refused e) = refusedBy (numberOf e)
 
-unfoldable pub newOf : List ℕ → ℕ → ℕ → Begun
-newOf ws len start = pick (invalid ws len) (refusedBy 13) (pick (leb (wordsFor len) (start / 64)) (refusedBy 16) (begun (walkAt ws len start start)))
+unfoldable pub walkNewOf : List ℕ → ℕ → ℕ → WalkBegun
+walkNewOf ws len start = cond (invalid ws len) (refusedBy 13) (cond (leb (wordsFor len) (start / 64)) (refusedBy 16) (begun (walkAt ws len start start)))
 
 -- what a step leaves: its answer and the walk
 pub record Step : Type 0 where
@@ -55,19 +55,19 @@ given ws len taken (found.At p) = step (value p) (walkAt ws len p (p + taken))
 given ws len taken found.Nothing = step none (walkAt ws len len len)
 
 module _ (ws : List ℕ) (len : ℕ) (w : Unary) where
-  unfoldable pub stepOf : Bool → ℕ → ℕ → Step
-  stepOf b taken k =
-      pick (invalid ws len) (step (refused 13) w)
+  unfoldable pub walkStepOf : Bool → ℕ → ℕ → Step
+  walkStepOf b taken k =
+      cond (invalid ws len) (step (refused 13) w)
       (given ws len taken (select (bitOver b ws) len (count (bitOver b ws) (w .from) + k)))
 
   abbrev pub nextOf : Step
-  nextOf = stepOf true 1 0
+  nextOf = walkStepOf true 1 0
 
   abbrev pub skip1Of : ℕ → Step
-  skip1Of k = stepOf true 0 k
+  skip1Of k = walkStepOf true 0 k
 
   abbrev pub skip0Of : ℕ → Step
-  skip0Of k = stepOf false 0 k
+  skip0Of k = walkStepOf false 0 k
 
   -- a walk over these bits, as `new` and each step leave it
   pub record Walking : Type 0 where

@@ -7,7 +7,7 @@ ghost use Prim.Native.Nat.{_/_, _<_};
 ghost use Rattle.errors.specs.Answer.{leaves};
 ghost use Rattle.broadword.specs.Fields.{flag};
 ghost use Rattle.bit_words.specs.Vector.{invalid};
-ghost use Rattle.bit_vectors.specs.Queries.{ofAltered, ofPushed, ofWord, ofBit, ofCount, ofPlace, accessOf, getBitsOf, getWord64Of, rank1Of, numOnesOf, selectOf, predecessor1Of, setBitOf, pushOf, fromBitOf};
+ghost use Rattle.bit_vectors.specs.Queries.{ofAltered, ofPushedBits, ofWord, ofBit, ofCount, ofPlace, accessOf, getBitsOf, getWord64Of, rank1Of, numOnesOf, selectBitOf, predecessor1Of, setBitOf, pushBitsOf, fromBitOf};
 use super::Altered;
 use super::Bit;
 use super::Count;
@@ -109,7 +109,7 @@ pub fn num_ones(words: &[u64], len: usize) -> Count
 
 // The place of the one, or the zero, that k of its kind stand before.
 fn select_over(words: &[u64], len: usize, over_one: bool, k: usize) -> Place
-    ensures { λ r. ⌜ ofPlace r ≡ selectOf (now (words .entry)) len «over_one» k ⌝ }
+    ensures { λ r. ⌜ ofPlace r ≡ selectBitOf (now (words .entry)) len «over_one» k ⌝ }
 {
     if is_invalid(words, len) {
         return Place::Refused(Refusal::InvalidBits);
@@ -130,13 +130,13 @@ fn select_over(words: &[u64], len: usize, over_one: bool, k: usize) -> Place
 }
 
 pub fn select1(words: &[u64], len: usize, k: usize) -> Place
-    ensures { λ r. ⌜ ofPlace r ≡ selectOf (now (words .entry)) len true k ⌝ }
+    ensures { λ r. ⌜ ofPlace r ≡ selectBitOf (now (words .entry)) len true k ⌝ }
 {
     select_over(words, len, true, k)
 }
 
 pub fn select0(words: &[u64], len: usize, k: usize) -> Place
-    ensures { λ r. ⌜ ofPlace r ≡ selectOf (now (words .entry)) len false k ⌝ }
+    ensures { λ r. ⌜ ofPlace r ≡ selectBitOf (now (words .entry)) len false k ⌝ }
 {
     select_over(words, len, false, k)
 }
@@ -203,7 +203,7 @@ pub fn set_bit(words: &mut [u64], len: usize, pos: usize, bit: bool) -> Altered
 
 // The lowest bits of `bits`, as many as width says, are pushed at the end.
 pub fn push_bits(words: &mut [u64], len: usize, bits: u64, width: usize) -> Pushed
-    ensures { λ r. ⌜ leaves (ofPushed r) (now (words .exit)) ≡ pushOf (now (words .entry)) len bits width ⌝ }
+    ensures { λ r. ⌜ leaves (ofPushedBits r) (now (words .exit)) ≡ pushBitsOf (now (words .entry)) len bits width ⌝ }
 {
     if is_invalid(words, len) {
         return Pushed::Refused(Refusal::InvalidBits);
@@ -228,7 +228,7 @@ pub fn push_bits(words: &mut [u64], len: usize, bits: u64, width: usize) -> Push
 
 // One bit is pushed at the end.
 pub fn push_bit(words: &mut [u64], len: usize, bit: bool) -> Pushed
-    ensures { λ r. ⌜ leaves (ofPushed r) (now (words .exit)) ≡ pushOf (now (words .entry)) len (flag bit) 1 ⌝ }
+    ensures { λ r. ⌜ leaves (ofPushedBits r) (now (words .exit)) ≡ pushBitsOf (now (words .entry)) len (flag bit) 1 ⌝ }
 {
     push_bits(words, len, bit_word(bit), 1)
 }

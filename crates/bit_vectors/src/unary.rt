@@ -10,8 +10,8 @@ ghost use Rattle.broadword.specs.Bits.{bit};
 ghost use Rattle.broadword.specs.Places.{select};
 ghost use Rattle.bit_words.specs.Vector.{bitOver, invalid};
 ghost use Rattle.bit_words.specs.Inner.{Skipped};
-ghost use Rattle.bit_vectors.specs.Inner.{Ahead, stopAt};
-ghost use Rattle.bit_vectors.specs.Walk.{ofStarted, ofStepped, newOf, stepOf, nextOf, skip1Of, skip0Of, Walking};
+ghost use Rattle.bit_vectors.specs.Inner.{OneAhead, stopAt};
+ghost use Rattle.bit_vectors.specs.Walk.{ofStarted, ofStepped, walkNewOf, walkStepOf, nextOf, skip1Of, skip0Of, Walking};
 use super::Place;
 use bit_words::WORD_LEN;
 use bit_words::find_from;
@@ -57,7 +57,7 @@ fn walk_from(words: &[u64], from: usize) -> Unary
 }
 
 pub fn new(words: &[u64], len: usize, start: usize) -> Started
-    ensures { λ r. ⌜ ofStarted r ≡ newOf (now (words .entry)) len start ⌝ }
+    ensures { λ r. ⌜ ofStarted r ≡ walkNewOf (now (words .entry)) len start ⌝ }
 {
     if is_invalid(words, len) {
         return Started::Refused(Refusal::InvalidBits);
@@ -114,7 +114,7 @@ struct Left {
 // The first word with a one that is still ahead; a rest of 0 where there is none.
 fn left_of(words: &[u64], len: usize, w: Unary) -> Left
     requires { ⌜ Walking (now words) len w ⌝ }
-    ensures { λ r. ⌜ Ahead (now (words .entry)) len (w .from) (r .at) (r .rest) ⌝ }
+    ensures { λ r. ⌜ OneAhead (now (words .entry)) len (w .from) (r .at) (r .rest) ⌝ }
 {
     let at = w.position / WORD_LEN;
     let rest = w.buf;
@@ -191,7 +191,7 @@ fn stop(words: &[u64], len: usize, place: usize) -> Stepped
 
 // To the one, or the zero, that k of its kind stand before, from the first place not yet taken on.
 fn skip_over(words: &[u64], len: usize, w: Unary, over_one: bool, k: usize) -> Stepped
-    ensures { λ r. ⌜ ofStepped r ≡ stepOf (now (words .entry)) len w «over_one» 0 k ⌝ }
+    ensures { λ r. ⌜ ofStepped r ≡ walkStepOf (now (words .entry)) len w «over_one» 0 k ⌝ }
 {
     if is_invalid(words, len) {
         return Stepped {

@@ -1,10 +1,9 @@
 -- A bit vector is lent words and a length: its bits are those of the words at the places below the length. Assumes nothing.
 use mathlib.Core.List.{List, [], _∷_, _++_}
-use mathlib.Core.Bool.{Bool, true, false, not}
+use mathlib.Core.Bool.{Bool, true, false, not, cond}
 use Prim.Native.Nat.{ℕ, zero, suc, _+_, _-_, _*_, _/_, _%_, _^_}
 use lib.Dec.{eqb, ltb}
 use lib.ListN.{length, getD, drop}
-use Rattle.errors.specs.Answer.{pick}
 use Rattle.broadword.specs.Bits.{bit}
 use Rattle.broadword.specs.Fields.{word}
 
@@ -23,11 +22,11 @@ wordsFor len = (len + 63) / 64
 
 -- the bits past the length in the last used word, as a number
 unfoldable pub padding : List ℕ → ℕ → ℕ
-padding ws len = pick (eqb (len % 64) 0) 0 (getD ws (len / 64) 0 / 2 ^ (len % 64))
+padding ws len = cond (eqb (len % 64) 0) 0 (getD ws (len / 64) 0 / 2 ^ (len % 64))
 
 -- refusal 13: the length is over 64 × words, or padding is set
 unfoldable pub invalid : List ℕ → ℕ → Bool
-invalid ws len = pick (ltb (length ws) (wordsFor len)) true (not (eqb (padding ws len) 0))
+invalid ws len = cond (ltb (length ws) (wordsFor len)) true (not (eqb (padding ws len) 0))
 
 -- the first k words of a number
 unfoldable pub numberWords : ℕ → ℕ → List ℕ

@@ -1,11 +1,10 @@
 -- Where a one stands in a run of bits: the last one, and the one that k ones stand before. Assumes nothing.
 use mathlib.Core.Path.{_≡_}
 use mathlib.Core.List.{List}
-use mathlib.Core.Bool.{_&&_}
+use mathlib.Core.Bool.{_&&_, cond}
 use Prim.Native.Nat.{ℕ, zero, suc, _+_, _*_, _<_}
 use lib.Dec.{eqb}
 use lib.ListN.{getD}
-use Rattle.errors.specs.Answer.{pick}
 use Rattle.broadword.specs.Bits.{bit, count}
 use Rattle.broadword.specs.declared.Found.{Found}
 use Rattle.broadword.specs.declared.Found.the-variants.{At, Nothing}
@@ -13,13 +12,13 @@ use Rattle.broadword.specs.declared.Found.the-variants.{At, Nothing}
 -- the highest place below n at which f is 1
 unfoldable pub last : (ℕ → ℕ) → ℕ → Found
 last f zero = Nothing
-last f (suc n) = pick (eqb (f n) 1) (At n) (last f n)
+last f (suc n) = cond (eqb (f n) 1) (At n) (last f n)
 
 -- the place below n at which f is 1, and before which k ones stand
 unfoldable pub select : (ℕ → ℕ) → ℕ → ℕ → Found
 unfolding count
 select f zero k = Nothing
-select f (suc n) k = pick (eqb (f n) 1 && eqb (count f n) k) (At n) (select f n k)
+select f (suc n) k = cond (eqb (f n) 1 && eqb (count f n) k) (At n) (select f n k)
 
 -- the place, or d where there is none
 abbrev pub orElse : Found → ℕ → ℕ

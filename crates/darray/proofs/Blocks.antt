@@ -1,21 +1,20 @@
 -- The blocks of a bit vector's positions, by what a scan of its words finds. Assumes nothing.
 use mathlib.Core.Path.{_≡_, sym, ap, ap₂, _∙_, subst}
 use mathlib.Core.List.{List}
-use mathlib.Core.Bool.{Bool}
+use mathlib.Core.Bool.{Bool, cond}
 use Prim.Native.Nat.{ℕ, suc, _+_, _-_, _*_, _^_, _≤_, _<_, min}
 use native.Mathlib.Nat.{le-refl, le-trans, lt-of-le-of-lt, lt-of-not-le}
 use native.Mathlib.Decide.{decLe}
 use native.Mathlib.Omega.{arith}
 use lib.Dec.{leb}
 use lib.ListN.{length}
-use Rattle.errors.specs.Answer.{pick}
 use Rattle.broadword.specs.Bits.{count}
 use Rattle.broadword.proofs.Count.{count-mono}
 use Rattle.bit_words.specs.Vector.{bitOver}
 use Rattle.bit_words.proofs.Runs.{bitOver-le}
 use Rattle.darray.specs.Positions.{places, positions}
 use Rattle.darray.specs.Index.{pos, size, wide, spill}
-use Rattle.darray.specs.Scan.{Position, Ahead, Inside, Spans, lastOf}
+use Rattle.darray.specs.Scan.{Position, Ahead, Inside, Spans, lastInBlock}
 use Rattle.darray.specs.declared.scan.Cursor.{Cursor}
 use Rattle.darray.specs.declared.scan.Span.{Span}
 use Rattle.darray.proofs.Positions as places
@@ -54,11 +53,11 @@ module _ (b : Bool) (ws : List ℕ) (len n : ℕ) (e : n ≡ count (bitOver b ws
     pub first-is : pos (positions b ws len) (1024 * j) ≡ s .first
     first-is = pos-is (1024 * j) (s .first) (p .first) h
 
-    pub last-is : pos (positions b ws len) (lastOf n j) ≡ s .last
-    last-is = pos-is (lastOf n j) (s .last) (p .last) (omega arith)
+    pub last-is : pos (positions b ws len) (lastInBlock n j) ≡ s .last
+    last-is = pos-is (lastInBlock n j) (s .last) (p .last) (omega arith)
 
     pub span-rises : s .first ≤ s .last
-    span-rises = omega (arith, first-is, last-is, index.rising b ws len (1024 * j) (lastOf n j) (omega arith) (omega (arith, length-is)))
+    span-rises = omega (arith, first-is, last-is, index.rising b ws len (1024 * j) (lastInBlock n j) (omega arith) (omega (arith, length-is)))
 
     pub size-is : min 1024 (n - 1024 * j) ≡ size (positions b ws len) j
     unfolding size
@@ -68,6 +67,6 @@ module _ (b : Bool) (ws : List ℕ) (len n : ℕ) (e : n ≡ count (bitOver b ws
     unfolding wide
     wide-is = ap₂ (λ (x y : ℕ). leb 65536 (x - y)) (sym last-is ∙ ap (λ (z : ℕ). pos (positions b ws len) (1024 * j + (z - 1))) size-is) (sym first-is)
 
-    pub spill-is : pick (leb 65536 (s .last - s .first)) (min 1024 (n - 1024 * j)) 0 ≡ spill (positions b ws len) j
+    pub spill-is : cond (leb 65536 (s .last - s .first)) (min 1024 (n - 1024 * j)) 0 ≡ spill (positions b ws len) j
     unfolding spill
-    spill-is = ap₂ (λ (w : Bool) (z : ℕ). pick w z 0) wide-is size-is
+    spill-is = ap₂ (λ (w : Bool) (z : ℕ). cond w z 0) wide-is size-is

@@ -48,17 +48,17 @@ holds-whole P l l′ same room h past =
         ∙ sym (getD-append-add (indexWords P) (drop (length (indexWords P)) l) k 0) ∙ ap (λ (m : ℕ). getD (indexWords P ++ drop (length (indexWords P)) l) m 0) e
 
 -- the words of the blocks before j are those of the index, o overflow positions among them, and the words past it are those of l₀
-pub record Written (P l₀ l : List ℕ) (o j : ℕ) : Type 0 where
+pub record BlocksWritten (P l₀ l : List ℕ) (o j : ℕ) : Type 0 where
   pub spilled : o ≡ before P j
   pub long : length l ≡ length l₀
   pub holds : Holds P l j
   pub past : (k : ℕ) → length (indexWords P) ≤ k → getD l k 0 ≡ getD l₀ k 0
 
-pub written-none : (P l : List ℕ) → Written P l l 0 0
+pub written-none : (P l : List ℕ) → BlocksWritten P l l 0 0
 unfolding before count
 written-none P l = record { spilled = refl; long = refl; holds = holds-none P l; past = λ k g. refl }
 
-pub written-all : (P l₀ l : List ℕ) (o j : ℕ) → j ≡ blocks P → length (indexWords P) ≤ length l₀ → Written P l₀ l o j → l ≡ indexWords P ++ drop (length (indexWords P)) l₀
+pub written-all : (P l₀ l : List ℕ) (o j : ℕ) → j ≡ blocks P → length (indexWords P) ≤ length l₀ → BlocksWritten P l₀ l o j → l ≡ indexWords P ++ drop (length (indexWords P)) l₀
 written-all P l₀ l o j e room w = holds-whole P l₀ l (w .long) room (subst (Holds P l) e (w .holds)) (w .past)
 
 pub shows-rising : (b : Bool) (ws : List ℕ) (len j : ℕ) → j < blocks (positions b ws len) → (a : List ℕ) (z : ℕ) → z ≡ size (positions b ws len) j → Shows (positions b ws len) j a → Rising a z
@@ -207,8 +207,8 @@ module _ (b : Bool) (ws : List ℕ) (len : ℕ) (s : Sizes) (m : ℕ) (w : Writa
           next-past k g = ap (λ (x : List ℕ). getD x k 0) is-after ∙ flush.after-past (positions b ws len) j there a stored l room k g
 
       -- one block more is written, and m overflow positions
-      pub written-next : (l₀ l l′ : List ℕ) (o k : ℕ) → length l₀ ≡ m → Written (positions b ws len) l₀ l o j → l′ ≡ flushed a z j (s .entries + 8 * j) o (s .entries + (s .lanes + 3) / 4 + o) l → k ≡ blockSpill a z
-          → Written (positions b ws len) l₀ l′ (o + k) (j + 1)
+      pub written-next : (l₀ l l′ : List ℕ) (o k : ℕ) → length l₀ ≡ m → BlocksWritten (positions b ws len) l₀ l o j → l′ ≡ flushed a z j (s .entries + 8 * j) o (s .entries + (s .lanes + 3) / 4 + o) l → k ≡ blockSpill a z
+          → BlocksWritten (positions b ws len) l₀ l′ (o + k) (j + 1)
       written-next l₀ l l′ o k e x d q =
           let el : length l ≡ m = x .long ∙ e in
           record {

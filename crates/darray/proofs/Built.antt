@@ -15,7 +15,7 @@ use Rattle.bit_vectors.specs.Queries.{ofFound}
 use Rattle.bit_words.specs.Vector.{bitOver, invalid}
 use Rattle.darray.specs.Positions.{positions}
 use Rattle.darray.specs.Index.{indexWords}
-use Rattle.darray.specs.Queries.{sizes, unmeasured, measureOf, buildOf, selectBuiltOf}
+use Rattle.darray.specs.Queries.{sizes, unmeasured, measureOf, buildIndexOf, selectBuiltOf}
 use Rattle.darray.proofs.Cases as cases
 
 module _ (ws : List ℕ) (len : ℕ) (b : Bool) (out : List ℕ) where
@@ -58,7 +58,7 @@ module _ (ws : List ℕ) (len : ℕ) (b : Bool) (out : List ℕ) where
   apart n m x y e = let q : value n ≡ refused m = ap (λ (o : Outcome). o .answer) e in let z : _≡_ {A = ℕ} 0 1 = cc in omega arith
 
   -- a build that was refused refuses the select
-  pub refused-so : (e k : ℕ) (left : List ℕ) → leaves (refused e) left ≡ buildOf ws len b out → leaves (refused e) left ≡ selectBuiltOf ws len b out k
+  pub refused-so : (e k : ℕ) (left : List ℕ) → leaves (refused e) left ≡ buildIndexOf ws len b out → leaves (refused e) left ≡ selectBuiltOf ws len b out k
   refused-so e k left h = go case-of
     where
       go : Case → leaves (refused e) left ≡ selectBuiltOf ws len b out k
@@ -75,7 +75,7 @@ module _ (ws : List ℕ) (len : ℕ) (b : Bool) (out : List ℕ) where
     pub number : n ≡ length I
     pub words : left ≡ I ++ drop (length I) out
 
-  pub made-so : (n : ℕ) (left : List ℕ) → leaves (value n) left ≡ buildOf ws len b out → Made n left
+  pub made-so : (n : ℕ) (left : List ℕ) → leaves (value n) left ≡ buildIndexOf ws len b out → Made n left
   made-so n left h = go case-of
     where
       go : Case → Made n left

@@ -10,7 +10,7 @@ use Rattle.broadword.specs.Fields.{flag}
 use Rattle.bit_words.specs.Vector.{invalid}
 use Rattle.darray.specs.Positions.{positions}
 use Rattle.darray.specs.Index.{blocks, lanes, overflow, indexWords}
-use Rattle.darray.specs.Queries.{sizes, unmeasured, ofMeasured, measureOf, buildOf, validateOf, same}
+use Rattle.darray.specs.Queries.{sizes, unmeasured, ofMeasured, measureOf, buildIndexOf, validateOf, same}
 use Rattle.darray.specs.Scan.{Sized}
 use Rattle.darray.specs.declared.inner.Sizes.{Sizes}
 use Rattle.darray.specs.declared.inner.Measured.the-variants as measured
@@ -35,22 +35,22 @@ module _ (ws : List ℕ) (len : ℕ) (b : Bool) where
       (cc (z .positions, z .entries, z .lanes, z .overflow, length-overflow (positions b ws len) (blocks (positions b ws len))))
 
   module _ (out : List ℕ) where
-    pub build-13 : invalid ws len ≡ true → buildOf ws len b out ≡ leaves (refused 13) out
-    unfolding buildOf
+    pub build-13 : invalid ws len ≡ true → buildIndexOf ws len b out ≡ leaves (refused 13) out
+    unfolding buildIndexOf
     build-13 h = rw h
 
-    pub build-2 : invalid ws len ≡ false → 2 ^ 63 ≤ len → buildOf ws len b out ≡ leaves (refused 2) out
-    unfolding buildOf
+    pub build-2 : invalid ws len ≡ false → 2 ^ 63 ≤ len → buildIndexOf ws len b out ≡ leaves (refused 2) out
+    unfolding buildIndexOf
     build-2 h l = rw (h, le-leb (2 ^ 63) len l)
 
-    pub build-3 : invalid ws len ≡ false → len < 2 ^ 63 → length out < length (indexWords (positions b ws len)) → buildOf ws len b out ≡ leaves (refused 3) out
-    unfolding buildOf
+    pub build-3 : invalid ws len ≡ false → len < 2 ^ 63 → length out < length (indexWords (positions b ws len)) → buildIndexOf ws len b out ≡ leaves (refused 3) out
+    unfolding buildIndexOf
     build-3 h l g = rw (h, lt-leb (2 ^ 63) len l, lt-ltb (length out) (length (indexWords (positions b ws len))) g)
 
     pub build-ok : invalid ws len ≡ false → len < 2 ^ 63 → length (indexWords (positions b ws len)) ≤ length out
         → (n : ℕ) (l : List ℕ) → n ≡ length (indexWords (positions b ws len)) → l ≡ indexWords (positions b ws len) ++ drop (length (indexWords (positions b ws len))) out
-        → leaves (value n) l ≡ buildOf ws len b out
-    unfolding buildOf
+        → leaves (value n) l ≡ buildIndexOf ws len b out
+    unfolding buildIndexOf
     build-ok h l g n m p q =
         rw (h, lt-leb (2 ^ 63) len l, le-ltb (length out) (length (indexWords (positions b ws len))) g) (ap₂ (λ (x : ℕ) (y : List ℕ). leaves (value x) y) p q)
 

@@ -2,7 +2,7 @@
 -- Assumes nothing.
 use mathlib.Core.Path.{_≡_, refl, sym, ap, ap₂, _∙_}
 use mathlib.Core.List.{List}
-use mathlib.Core.Bool.{Bool, true, false}
+use mathlib.Core.Bool.{Bool, true, false, cond}
 use mathlib.Core.Logic.{_⊎_, ⊎-elim}
 use Prim.Native.Nat.{ℕ, zero, suc, _+_, _-_, _*_, _/_, _^_, _≤_, _<_, zero-le}
 use native.Mathlib.Nat.{le-refl, not-suc-le-zero, eq-or-lt-of-le, le-of-suc-le-suc}
@@ -13,7 +13,6 @@ use borrow.Author.Tests.{lt-ltb, le-ltb, leb-false}
 use lib.Dec.{leb}
 use lib.ListN.{length, getD, set, length-set}
 use lib.Seq.{getD-set-same, getD-set-other}
-use Rattle.errors.specs.Answer.{pick}
 use Rattle.broadword.specs.Fields.{word}
 use Rattle.broadword.proofs.Fields.{word-same}
 use Rattle.darray.specs.Index.{pos, blocks, size, wide, spill, before, entry, lanes, lane, laneWord, laneWords, overflow, indexWords}
@@ -96,11 +95,11 @@ module _ (P : List ℕ) (j : ℕ) (h : j < blocks P) (a : List ℕ) (is : Shows 
 
   pub spill-block : blockSpill a (size P j) ≡ spill P j
   unfolding blockSpill spill
-  spill-block = ap (λ (w : Bool). pick w (size P j) 0) wide-block
+  spill-block = ap (λ (w : Bool). cond w (size P j) 0) wide-block
 
   pub entry-block : blockEntry a (size P j) (before P j) ≡ entry P j
   unfolding blockEntry entry
-  entry-block = ap₂ (λ (w : Bool) (x : ℕ). pick w (2 ^ 64 - (before P j + 1)) x) wide-block first
+  entry-block = ap₂ (λ (w : Bool) (x : ℕ). cond w (2 ^ 64 - (before P j + 1)) x) wide-block first
 
   lane-there : (i : ℕ) → i < 32 → 32 * i < size P j → 32 * j + i < lanes P
   unfolding lanes size
@@ -242,7 +241,7 @@ pub spill-few : (a : List ℕ) (n : ℕ) → blockSpill a n ≤ n
 unfolding blockSpill
 spill-few a n = by (blockWide a n)
   where
-    by : (w : Bool) → pick w n 0 ≤ n
+    by : (w : Bool) → cond w n 0 ≤ n
     by true = le-refl n
     by false = zero-le
 
@@ -250,16 +249,16 @@ module _ (a : List ℕ) (n j lanesAt o overAt : ℕ) (l l₁ l₂ : List ℕ) (w
   pub lanes-length : length l₁ ≡ length l
   lanes-length = ap length lanes-put ∙ length-put (set l j v) lanesAt (blockLaneWord a n) ((n + 127) / 128) ∙ length-set l j v
 
-  pub flush-is : w ≡ blockWide a n → v ≡ pick w (2 ^ 64 - (o + 1)) (getD a 0 0) → s ≡ blockSpill a n → l₂ ≡ put l₁ overAt (λ i. getD a i 0) s → l₂ ≡ flushed a n j lanesAt o overAt l
+  pub flush-is : w ≡ blockWide a n → v ≡ cond w (2 ^ 64 - (o + 1)) (getD a 0 0) → s ≡ blockSpill a n → l₂ ≡ put l₁ overAt (λ i. getD a i 0) s → l₂ ≡ flushed a n j lanesAt o overAt l
   unfolding flushed blockEntry
   flush-is p q r e =
       e ∙ ap₂ (λ (m : List ℕ) (k : ℕ). put m overAt (λ i. getD a i 0) k) lanes-put r
       ∙ ap (λ (x : ℕ). put (put (set l j x) lanesAt (blockLaneWord a n) ((n + 127) / 128)) overAt (λ i. getD a i 0) (blockSpill a n))
-      (q ∙ ap (λ (b : Bool). pick b (2 ^ 64 - (o + 1)) (getD a 0 0)) p)
+      (q ∙ ap (λ (b : Bool). cond b (2 ^ 64 - (o + 1)) (getD a 0 0)) p)
 
   pub flush-length : l₂ ≡ put l₁ overAt (λ i. getD a i 0) s → length l₂ ≡ length l
   flush-length e = ap length e ∙ length-put l₁ overAt (λ i. getD a i 0) s ∙ lanes-length
 
-pub entry-is : (a : List ℕ) (n o v : ℕ) (w : Bool) → w ≡ blockWide a n → v ≡ pick w (2 ^ 64 - (o + 1)) (getD a 0 0) → v ≡ blockEntry a n o
+pub entry-is : (a : List ℕ) (n o v : ℕ) (w : Bool) → w ≡ blockWide a n → v ≡ cond w (2 ^ 64 - (o + 1)) (getD a 0 0) → v ≡ blockEntry a n o
 unfolding blockEntry
-entry-is a n o v w p q = q ∙ ap (λ (b : Bool). pick b (2 ^ 64 - (o + 1)) (getD a 0 0)) p
+entry-is a n o v w p q = q ∙ ap (λ (b : Bool). cond b (2 ^ 64 - (o + 1)) (getD a 0 0)) p

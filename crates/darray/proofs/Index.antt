@@ -2,7 +2,7 @@
 -- are read back. Assumes nothing.
 use mathlib.Core.Path.{_≡_, refl, sym, ap, ap₂, _∙_, subst}
 use mathlib.Core.List.{List, _++_}
-use mathlib.Core.Bool.{Bool, true, false}
+use mathlib.Core.Bool.{Bool, true, false, cond}
 use Prim.Native.Nat.{ℕ, zero, suc, _+_, _-_, _*_, _/_, _%_, _^_, _≤_, _<_, min, zero-le}
 use native.Mathlib.Nat.{not-suc-le-zero, le-of-suc-le-suc, le-refl, mul-comm}
 use native.Mathlib.Decide.{decLt, le-ind}
@@ -11,7 +11,6 @@ use borrow.Author.Tests.{lt-ltb, le-ltb, leb-false}
 use lib.Bits.{bitAnd, and-mask}
 use lib.ListN.{length, getD, length-append, List·getD-append}
 use lib.Seq.{getD-append-add}
-use Rattle.errors.specs.Answer.{pick}
 use Rattle.broadword.specs.Bits.{count}
 use Rattle.broadword.proofs.Count.{count-mono}
 use Rattle.broadword.proofs.Fields.{digit-is, digit-word, word-lt}
@@ -77,7 +76,7 @@ module _ (P : List ℕ) where
   unfolding spill
   spill-le j = by (wide P j)
     where
-      by : (w : Bool) → pick w (size P j) 0 ≤ size P j
+      by : (w : Bool) → cond w (size P j) 0 ≤ size P j
       by true = le-refl (size P j)
       by false = zero-le
 

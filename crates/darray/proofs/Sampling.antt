@@ -1,7 +1,7 @@
 -- Which positions of a block are stored where not all are needed. Assumes nothing.
 use mathlib.Core.Path.{_≡_, sym, ap₂, _∙_, subst, subst⁻¹}
 use mathlib.Core.List.{List}
-use mathlib.Core.Bool.{Bool, true, false}
+use mathlib.Core.Bool.{Bool, true, false, cond}
 use mathlib.Core.Logic.{_⊎_, inl, inr, ⊎-elim}
 use Prim.Native.Nat.{ℕ, _+_, _-_, _*_, _≤_, _<_, min}
 use native.Mathlib.Decide.{ℕ-discrete, decLt}
@@ -9,7 +9,6 @@ use native.Mathlib.Omega.{arith}
 use lib.Dec.{leb}
 use lib.ListN.{length, getD, set, length-set}
 use lib.Seq.{getD-set-same, getD-set-other}
-use Rattle.errors.specs.Answer.{pick}
 use Rattle.darray.specs.Scan.{Position, Ahead, Spans}
 use Rattle.darray.specs.Pending.{Due, Sampled, Loaded, blockWide}
 use Rattle.darray.specs.declared.scan.Cursor.{Cursor}
@@ -24,30 +23,30 @@ pub due-0 : (w : Bool) → Due w 0
 due-0 true = tt
 due-0 false = omega arith
 
-pub due-next : (w : Bool) (i : ℕ) → Due w i → Due w (i + pick w 1 32)
+pub due-next : (w : Bool) (i : ℕ) → Due w i → Due w (i + cond w 1 32)
 due-next true i d = tt
 due-next false i d = omega arith
 
 -- none is due between one and the next
-pub due-last : (w : Bool) (i m : ℕ) → Due w i → m < i + pick w 1 32 → Due w m → (m < i) ⊎ (m ≡ i)
+pub due-last : (w : Bool) (i m : ℕ) → Due w i → m < i + cond w 1 32 → Due w m → (m < i) ⊎ (m ≡ i)
 due-last w i m d h e = by (decLt m i) w d h e
   where
-    by : Dec (m < i) → (w : Bool) → Due w i → m < i + pick w 1 32 → Due w m → (m < i) ⊎ (m ≡ i)
+    by : Dec (m < i) → (w : Bool) → Due w i → m < i + cond w 1 32 → Due w m → (m < i) ⊎ (m ≡ i)
     by (yes l) w d h e = inl l
     by (no l) true d h e = inr (omega arith)
     by (no l) false d h e = inr (omega arith)
 
-pub stride-pos : (w : Bool) → 1 ≤ pick w 1 32
+pub stride-pos : (w : Bool) → 1 ≤ cond w 1 32
 stride-pos true = omega arith
 stride-pos false = omega arith
 
-pub stride-le : (w : Bool) → pick w 1 32 ≤ 32
+pub stride-le : (w : Bool) → cond w 1 32 ≤ 32
 stride-le true = omega arith
 stride-le false = omega arith
 
 module _ (f : ℕ → ℕ) (k size : ℕ) (w : Bool) (a : List ℕ) (long : length a ≡ 1024) (few : size ≤ 1024) (i : ℕ) (stored : (m : ℕ) → m < i → m < size → Due w m → Position f (k + m) (getD a m 0)) (x : ℕ) where
   -- one more is stored
-  pub sample-more : i < size → Due w i → Position f (k + i) x → (m : ℕ) → m < i + pick w 1 32 → m < size → Due w m → Position f (k + m) (getD (set a i x) m 0)
+  pub sample-more : i < size → Due w i → Position f (k + i) x → (m : ℕ) → m < i + cond w 1 32 → m < size → Due w m → Position f (k + m) (getD (set a i x) m 0)
   sample-more h d p m g l e =
       ⊎-elim
       (λ (q : m < i). subst (Position f (k + m)) (sym (getD-set-other a i m x 0 (λ (z : m ≡ i). omega arith))) (stored m q l e))

@@ -12,7 +12,6 @@ use lib.Signed.{nonNeg, ltZ}
 use mir.Syntax.{w64}
 use mir.Val.{Fits, SFits, toZ, ofZ}
 use mir.ValLaws.{toZ-pos, toZ-ofZ}
-use Rattle.errors.specs.Answer.{pick}
 use Rattle.darray.specs.Select.{signedOf, entryOf}
 use Rattle.darray.specs.declared.select.Entry.the-variants.{First, Overflow}
 
@@ -22,16 +21,16 @@ below-one (suc k) = ap (λ (n : ℕ). negsuc (suc n)) (zero-add k)
 
 module _ (w : ℕ) (h : w < 2 ^ 64) where
   pub signed-low : w < 2 ^ 63 → signedOf w ≡ pos w
-  signed-low l = ap (λ (t : Bool). pick t (pos w) (negsuc (2 ^ 64 - 1 - w))) (lt-ltb w (2 ^ 63) l)
+  signed-low l = ap (λ (t : Bool). cond t (pos w) (negsuc (2 ^ 64 - 1 - w))) (lt-ltb w (2 ^ 63) l)
 
   pub signed-high : 2 ^ 63 ≤ w → signedOf w ≡ negsuc (2 ^ 64 - 1 - w)
-  signed-high l = ap (λ (t : Bool). pick t (pos w) (negsuc (2 ^ 64 - 1 - w))) (le-ltb w (2 ^ 63) l)
+  signed-high l = ap (λ (t : Bool). cond t (pos w) (negsuc (2 ^ 64 - 1 - w))) (le-ltb w (2 ^ 63) l)
 
   pub entry-low : w < 2 ^ 63 → entryOf w ≡ First w
-  entry-low l = ap (λ (t : Bool). pick t (First w) (Overflow (2 ^ 64 - 1 - w))) (lt-ltb w (2 ^ 63) l)
+  entry-low l = ap (λ (t : Bool). cond t (First w) (Overflow (2 ^ 64 - 1 - w))) (lt-ltb w (2 ^ 63) l)
 
   pub entry-high : 2 ^ 63 ≤ w → entryOf w ≡ Overflow (2 ^ 64 - 1 - w)
-  entry-high l = ap (λ (t : Bool). pick t (First w) (Overflow (2 ^ 64 - 1 - w))) (le-ltb w (2 ^ 63) l)
+  entry-high l = ap (λ (t : Bool). cond t (First w) (Overflow (2 ^ 64 - 1 - w))) (le-ltb w (2 ^ 63) l)
 
   module _ (l : 2 ^ 63 ≤ w) where
     abbrev v : ℕ

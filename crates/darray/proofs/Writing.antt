@@ -12,7 +12,7 @@ use Rattle.broadword.specs.Places.{SelectInByte}
 use Rattle.bit_words.specs.Vector.{bitOver}
 use Rattle.darray.specs.Positions.{positions}
 use Rattle.darray.specs.Index.{indexWords}
-use Rattle.darray.specs.Scan.{Ahead, Inside, Writable, lastOf}
+use Rattle.darray.specs.Scan.{Ahead, Inside, Writable, lastInBlock}
 use Rattle.darray.specs.Pending.{Loaded, Rising, blockSpill, put, flushed, Flushable, Matches, lanesAt, overAt, blockEntry, blockLaneWord}
 use Rattle.darray.specs.declared.scan.Cursor.{Cursor}
 use Rattle.darray.specs.declared.inner.Sizes.{Sizes}
@@ -20,7 +20,7 @@ use Rattle.darray.proofs.Index as index
 use Rattle.darray.proofs.Blocks as block
 use Rattle.darray.proofs.Flush.{Shows}
 use Rattle.darray.proofs.Building as building
-use Rattle.darray.proofs.Building.{Written}
+use Rattle.darray.proofs.Building.{BlocksWritten}
 
 -- ---- words past a place
 
@@ -72,7 +72,7 @@ pub record Writing (b : Bool) (ws : List ℕ) (len : ℕ) (l₀ : List ℕ) (at 
   pub below : take at l ≡ take at l₀
   pub long : length a ≡ 1024
   pub ahead : Ahead (bitOver b ws) from (1024 * j)
-  pub written : Written (positions b ws len) (drop at l₀) (drop at l) o j
+  pub written : BlocksWritten (positions b ws len) (drop at l₀) (drop at l) o j
 
 pub writing-none : (b : Bool) (ws : List ℕ) (len : ℕ) (l : List ℕ) (at : ℕ) (a : List ℕ) → length a ≡ 1024 → Writing b ws len l at l a (record { word = 0; before = 0 }) 0 0
 unfolding count
@@ -114,9 +114,9 @@ module _ (b : Bool) (ws : List ℕ) (len : ℕ) (l₀ : List ℕ) (at : ℕ) (s 
       pub first-there : 1024 * j < s .positions
       first-there = building.block-there b ws len s (length l₀ - at) w j h
 
-      pub load-ready : (t : List ℕ) → SelectInByte t → (length a ≡ 1024) × SelectInByte t × Ahead (bitOver b v) from (1024 * j) × Inside (bitOver b v) (length v) (lastOf (s .positions) j) × (1024 * j < s .positions)
+      pub load-ready : (t : List ℕ) → SelectInByte t → (length a ≡ 1024) × SelectInByte t × Ahead (bitOver b v) from (1024 * j) × Inside (bitOver b v) (length v) (lastInBlock (s .positions) j) × (1024 * j < s .positions)
       load-ready t r =
-          subst⁻¹ (λ (y : List ℕ). (length a ≡ 1024) × SelectInByte t × Ahead (bitOver b y) from (1024 * j) × Inside (bitOver b y) (length y) (lastOf (s .positions) j) × (1024 * j < s .positions)) ev
+          subst⁻¹ (λ (y : List ℕ). (length a ≡ 1024) × SelectInByte t × Ahead (bitOver b y) from (1024 * j) × Inside (bitOver b y) (length y) (lastInBlock (s .positions) j) × (1024 * j < s .positions)) ev
           (x .long, r, x .ahead, building.inside b ws len s (length l₀ - at) w j (min 1024 (s .positions - 1024 * j)) h refl (1024 * j) refl, first-there)
 
       module _ (z : ℕ) (ez : z ≡ min 1024 (s .positions - 1024 * j)) (a′ : List ℕ) (c : Cursor) (y : Loaded (bitOver b v) (s .positions) j a′ c) where

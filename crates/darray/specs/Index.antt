@@ -1,11 +1,10 @@
 -- The select index of a list of positions as words: document 01, "Odd spots" (src/bit_vectors/darray/inner.rs) and "The image".
 -- Assumes nothing.
 use mathlib.Core.List.{List, [], _∷_, _++_}
-use mathlib.Core.Bool.{Bool}
+use mathlib.Core.Bool.{Bool, cond}
 use Prim.Native.Nat.{ℕ, zero, suc, _+_, _-_, _*_, _/_, _^_, min}
 use lib.Dec.{leb, ltb}
 use lib.ListN.{length, getD}
-use Rattle.errors.specs.Answer.{pick}
 use Rattle.broadword.specs.Bits.{count}
 use Rattle.broadword.specs.Fields.{word}
 
@@ -33,7 +32,7 @@ module _ (P : List ℕ) where
 
   -- "otherwise all its positions go to the overflow list": how many of the block j do
   unfoldable pub spill : ℕ → ℕ
-  spill j = pick (wide j) (size j) 0
+  spill j = cond (wide j) (size j) 0
 
   -- how many of the blocks before j do
   unfoldable pub before : ℕ → ℕ
@@ -41,7 +40,7 @@ module _ (P : List ℕ) where
 
   -- "the block's entry is its first position", or the two's complement of e with "overflow place -e - 1"
   unfoldable pub entry : ℕ → ℕ
-  entry j = pick (wide j) (2 ^ 64 - (before j + 1)) (pos (1024 * j))
+  entry j = cond (wide j) (2 ^ 64 - (before j + 1)) (pos (1024 * j))
 
   -- "every 32nd position has a 16-bit distance": how many
   unfoldable pub lanes : ℕ
@@ -49,7 +48,7 @@ module _ (P : List ℕ) where
 
   -- the distance of the position 32 i from the first of its block, or 65,535 in a wide one; "unused lanes zero"
   unfoldable pub lane : ℕ → ℕ
-  lane i = pick (ltb i lanes) (pick (wide (i / 32)) 65535 (pos (32 * i) - pos (1024 * (i / 32)))) 0
+  lane i = cond (ltb i lanes) (cond (wide (i / 32)) 65535 (pos (32 * i) - pos (1024 * (i / 32)))) 0
 
   -- "four to a word from the low end"
   unfoldable pub laneWord : ℕ → ℕ

@@ -2,13 +2,12 @@
 -- crate are promised by: no public contract rests on it. Assumes nothing.
 use mathlib.Core.Path.{_≡_}
 use mathlib.Core.List.{List}
-use mathlib.Core.Bool.{Bool, true, false}
+use mathlib.Core.Bool.{Bool, true, false, cond}
 use Prim.Native.Nat.{ℕ, zero, suc, _+_, _-_, _*_, _/_, _%_, _^_, _≤_, _<_, min}
 use lib.Dec.{leb, ltb}
 use lib.ListN.{length, getD, set}
-use Rattle.errors.specs.Answer.{pick}
 use Rattle.broadword.specs.Fields.{word}
-use Rattle.darray.specs.Scan.{Position, Ahead, lastOf}
+use Rattle.darray.specs.Scan.{Position, Ahead, lastInBlock}
 use Rattle.darray.specs.declared.scan.Cursor.{Cursor}
 use Rattle.darray.specs.declared.pending.Pending.{Pending}
 use Rattle.darray.specs.declared.inner.Sizes.{Sizes}
@@ -36,17 +35,17 @@ blockWide a n = leb 65536 (getD a (n - 1) 0 - getD a 0 0)
 -- those of the block j of n positions that its words need were stored, and the cursor is at the word of the last
 pub record Loaded (f : ℕ → ℕ) (n j : ℕ) (a : List ℕ) (c : Cursor) : Type 0 where
   pub sampled : Sampled f (1024 * j) (min 1024 (n - 1024 * j)) (blockWide a (min 1024 (n - 1024 * j))) a
-  pub next : Ahead f c (lastOf n j)
+  pub next : Ahead f c (lastInBlock n j)
 
 unfoldable pub blockSpill : List ℕ → ℕ → ℕ
-blockSpill a n = pick (blockWide a n) n 0
+blockSpill a n = cond (blockWide a n) n 0
 
 -- the entry, with o overflow positions before it
 unfoldable pub blockEntry : List ℕ → ℕ → ℕ → ℕ
-blockEntry a n o = pick (blockWide a n) (2 ^ 64 - (o + 1)) (getD a 0 0)
+blockEntry a n o = cond (blockWide a n) (2 ^ 64 - (o + 1)) (getD a 0 0)
 
 unfoldable pub blockLane : List ℕ → ℕ → ℕ → ℕ
-blockLane a n i = pick (ltb (32 * i) n) (pick (blockWide a n) 65535 (getD a (32 * i) 0 - getD a 0 0)) 0
+blockLane a n i = cond (ltb (32 * i) n) (cond (blockWide a n) 65535 (getD a (32 * i) 0 - getD a 0 0)) 0
 
 unfoldable pub blockLaneWord : List ℕ → ℕ → ℕ → ℕ
 blockLaneWord a n t = word 16 (λ i. blockLane a n (4 * t + i)) 4

@@ -35,15 +35,15 @@ pub record Hits (f : ℕ → ℕ) (k : ℕ) (h : Hit) : Type 0 where
   pub ahead : Ahead f (h .cursor) k
 
 -- the number of the last position of the block j of n positions
-abbrev pub lastOf : ℕ → ℕ → ℕ
-lastOf n j = 1024 * j + (min 1024 (n - 1024 * j) - 1)
+abbrev pub lastInBlock : ℕ → ℕ → ℕ
+lastInBlock n j = 1024 * j + (min 1024 (n - 1024 * j) - 1)
 
 -- the first and the last position of the block j, and cursors at their words
 pub record Spans (f : ℕ → ℕ) (n j : ℕ) (s : Span) : Type 0 where
   pub first : Position f (1024 * j) (s .first)
-  pub last : Position f (lastOf n j) (s .last)
+  pub last : Position f (lastInBlock n j) (s .last)
   pub from : Ahead f (s .from) (1024 * j)
-  pub next : Ahead f (s .next) (lastOf n j)
+  pub next : Ahead f (s .next) (lastInBlock n j)
 
 -- the sizes of the index of P
 pub record Sized (P : List ℕ) (s : Sizes) : Type 0 where

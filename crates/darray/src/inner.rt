@@ -15,7 +15,7 @@ ghost use Rattle.bit_words.specs.Vector.{wordsFor};
 ghost use Rattle.darray.specs.Positions.{positions};
 ghost use Rattle.darray.specs.Index.{indexWords};
 ghost use Rattle.darray.specs.Pending.{Decides};
-ghost use Rattle.darray.specs.Queries.{ofMeasured, ofBuilt, ofValidated, measureOf, buildOf, validateOf};
+ghost use Rattle.darray.specs.Queries.{ofMeasured, ofBuiltIndex, ofValidated, measureOf, buildIndexOf, validateOf};
 ghost use Rattle.darray.specs.Scan.{Sized, Writable};
 use crate::pending::block_matches;
 use crate::pending::empty;
@@ -85,7 +85,7 @@ pub fn measure(words: &[u64], len: usize, over_one: bool) -> Measured
 
 // Writes the index over the ones or the zeros of a bit vector to the front of `out`, and leaves its later words.
 pub fn build(words: &[u64], len: usize, over_one: bool, out: &mut [u64]) -> Built
-    ensures { λ r. ⌜ leaves (ofBuilt r) (now (out .exit)) ≡ buildOf (now (words .entry)) len «over_one» (now (out .entry)) ⌝ }
+    ensures { λ r. ⌜ leaves (ofBuiltIndex r) (now (out .exit)) ≡ buildIndexOf (now (words .entry)) len «over_one» (now (out .entry)) ⌝ }
 {
     if is_invalid(words, len) {
         return Built::Refused(Refusal::InvalidBits);

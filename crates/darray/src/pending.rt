@@ -1,14 +1,13 @@
 // The pending positions of a block: those that its words need are stored, and a flush writes them to the index and empties them.
 ghost use mathlib.Core.Path.{_≡_};
-ghost use mathlib.Core.Bool.{true};
+ghost use mathlib.Core.Bool.{true, cond};
 ghost use Prim.Native.Nat.{ℕ, _+_, _-_, _*_, _/_, _^_, _≤_, _<_};
 ghost use lib.Dec.{leb};
 ghost use lib.ListN.{length, getD, replicate};
-ghost use Rattle.errors.specs.Answer.{pick};
 ghost use Rattle.broadword.specs.Bits.{bit};
 ghost use Rattle.broadword.specs.Places.{select, SelectInByte};
 ghost use Rattle.bit_words.specs.Vector.{bitOver};
-ghost use Rattle.darray.specs.Scan.{Position, Ahead, Inside, lastOf};
+ghost use Rattle.darray.specs.Scan.{Position, Ahead, Inside, lastInBlock};
 ghost use Rattle.darray.specs.Pending.{Sampled, Loaded, Rising, blockWide, blockSpill, blockLane, blockLaneWord, put, flushed, Flushable, lanesAt, overAt, emptied, Decides, Reads, Matches};
 use crate::inner::BLOCK_LEN;
 use crate::inner::SUBBLOCK_LEN;
@@ -63,7 +62,7 @@ fn fill(a: &mut [u64; 1024], words: &[u64], over_one: bool, first: usize, k: usi
 // From one position that a block's words need to the next: all of a wide one are needed, else every 32nd.
 fn stride(first: u64, last: u64) -> usize
     requires { ⌜ first ≤ last ⌝ }
-    ensures { λ r. ⌜ r ≡ pick (leb 65536 (last - first)) 1 32 ⌝ }
+    ensures { λ r. ⌜ r ≡ cond (leb 65536 (last - first)) 1 32 ⌝ }
 {
     if is_wide(first, last) {
         1
@@ -110,7 +109,7 @@ pub fn load(
     block: usize,
     from: Cursor,
 ) -> Cursor
-    requires { ⌜ ((length (now a) ≡ 1024) × SelectInByte (now table) × Ahead (bitOver «over_one» (now words)) from (1024 * block) × Inside (bitOver «over_one» (now words)) (length (now words)) (lastOf n block) × (1024 * block < n)) ⌝ }
+    requires { ⌜ ((length (now a) ≡ 1024) × SelectInByte (now table) × Ahead (bitOver «over_one» (now words)) from (1024 * block) × Inside (bitOver «over_one» (now words)) (length (now words)) (lastInBlock n block) × (1024 * block < n)) ⌝ }
     ensures { λ r. ⌜ Loaded (bitOver «over_one» (now (words .entry))) n block (now (a .exit)) r ⌝ }
 {
     let k = BLOCK_LEN * block;
@@ -157,7 +156,7 @@ pub fn spill(a: &[u64; 1024], n: usize) -> usize
 
 // The first position, or -(over + 1) in two's complement.
 fn entry(first: u64, wide: bool, over: usize) -> u64
-    ensures { λ r. ⌜ r ≡ pick wide (2 ^ 64 - (over + 1)) first ⌝ }
+    ensures { λ r. ⌜ r ≡ cond wide (2 ^ 64 - (over + 1)) first ⌝ }
 {
     if wide { u64::MAX - over as u64 } else { first }
 }

@@ -1,14 +1,14 @@
 // Positions found word by word: a cursor moves over the words by their counts of ones, so that a position takes the time of the
 // words between, and those between it and the last one found are not visited.
 ghost use mathlib.Core.Path.{_≡_};
+ghost use mathlib.Core.Bool.{cond};
 ghost use Prim.Native.Nat.{_+_, _-_, _*_, _/_, _≤_, _<_, min};
 ghost use lib.Dec.{leb};
 ghost use lib.ListN.{length, getD};
-ghost use Rattle.errors.specs.Answer.{pick};
 ghost use Rattle.broadword.specs.Bits.{count, ones};
 ghost use Rattle.broadword.specs.Places.{SelectInByte};
 ghost use Rattle.bit_words.specs.Vector.{wordsFor, bitOver, wordOver};
-ghost use Rattle.darray.specs.Scan.{Position, lastOf, Ahead, Inside, Hits, Spans};
+ghost use Rattle.darray.specs.Scan.{Position, lastInBlock, Ahead, Inside, Hits, Spans};
 use crate::inner::BLOCK_LEN;
 use crate::inner::MAX_IN_BLOCK_DISTANCE;
 use bit_words::WORD_LEN;
@@ -169,7 +169,7 @@ pub fn is_wide(first: u64, last: u64) -> bool
 // How many of its positions go to the overflow.
 pub fn spilled(first: u64, last: u64, size: usize) -> usize
     requires { ⌜ first ≤ last ⌝ }
-    ensures { λ r. ⌜ r ≡ pick (leb 65536 (last - first)) size 0 ⌝ }
+    ensures { λ r. ⌜ r ≡ cond (leb 65536 (last - first)) size 0 ⌝ }
 {
     if is_wide(first, last) { size } else { 0 }
 }
@@ -183,7 +183,7 @@ pub fn ends(
     block: usize,
     from: Cursor,
 ) -> Span
-    requires { ⌜ (SelectInByte (now table) × Ahead (bitOver «over_one» (now words)) from (1024 * block) × Inside (bitOver «over_one» (now words)) (length (now words)) (lastOf n block) × (1024 * block < n)) ⌝ }
+    requires { ⌜ (SelectInByte (now table) × Ahead (bitOver «over_one» (now words)) from (1024 * block) × Inside (bitOver «over_one» (now words)) (length (now words)) (lastInBlock n block) × (1024 * block < n)) ⌝ }
     ensures { λ r. ⌜ Spans (bitOver «over_one» (now (words .entry))) n block r ⌝ }
 {
     let k = BLOCK_LEN * block;

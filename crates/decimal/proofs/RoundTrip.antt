@@ -12,7 +12,7 @@ use lib.Arith.{mod-mul}
 use lib.Dec.{ltb}
 use borrow.Author.Tests.{ltb-true, ltb-false, lt-ltb, le-ltb, le-leb}
 use Rattle.decimal.specs.declared.Parsed.the-variants.{Value, TooLarge}
-use Rattle.decimal.specs.Decimal.{isDigit, allDigits, valueFrom, parseOf, digits, places, textOf, writeOf}
+use Rattle.decimal.specs.Decimal.{isDigit, allDigits, valueFrom, parseOf, digits, numDigits, textOf, writeOf}
 use Rattle.decimal.proofs.Reading.{both, parse-digits}
 use Rattle.decimal.proofs.Writing.{digits-length, places-small, places-more, places-some}
 
@@ -52,28 +52,28 @@ digits-value (suc k) x =
     rw (pow-suc 10 k) (omega arith)
 
 -- a number below 10 ^ (f + 1) is below 10 to the number of its digits
-pub places-hold : (f x : ℕ) → x < 10 ^ suc f → x < 10 ^ places f x
-unfolding places
+pub places-hold : (f x : ℕ) → x < 10 ^ suc f → x < 10 ^ numDigits f x
+unfolding numDigits
 places-hold zero x h = h
 places-hold (suc f) x h =
     let a = pow-suc 10 (suc f) in
     let b = places-hold f (x / 10) (omega arith) in
     ⊎-elim
     (λ (s : x < 10). rw (places-small (suc f) x s) s)
-    (λ (l : 10 ≤ x). rw (places-more f x l, pow-suc 10 (places f (x / 10))) (omega arith))
+    (λ (l : 10 ≤ x). rw (places-more f x l, pow-suc 10 (numDigits f (x / 10))) (omega arith))
     (lt-or-le x 10)
 
 -- a number but 0 starts with a digit but '0'
-pub no-leading-zero : (f x : ℕ) → 0 < x → x < 10 ^ suc f → 48 < getD (digits (places f x) x) 0 0
-unfolding digits places
+pub no-leading-zero : (f x : ℕ) → 0 < x → x < 10 ^ suc f → 48 < getD (digits (numDigits f x) x) 0 0
+unfolding digits numDigits
 no-leading-zero zero x h i = omega arith
 no-leading-zero (suc f) x h i =
     let a = pow-suc 10 (suc f) in
-    let n : 0 < length (digits (places f (x / 10)) (x / 10)) = rw digits-length (places-some f (x / 10)) in
+    let n : 0 < length (digits (numDigits f (x / 10)) (x / 10)) = rw digits-length (places-some f (x / 10)) in
     ⊎-elim
     (λ (s : x < 10). rw (places-small (suc f) x s) (omega arith))
     (λ (l : 10 ≤ x).
-    rw (places-more f x l, List·getD-append (digits (places f (x / 10)) (x / 10)) ((48 + x % 10) ∷ []) 0 0 n)
+    rw (places-more f x l, List·getD-append (digits (numDigits f (x / 10)) (x / 10)) ((48 + x % 10) ∷ []) 0 0 n)
     (no-leading-zero f (x / 10) (omega arith) (omega arith)))
     (lt-or-le x 10)
 
@@ -81,10 +81,10 @@ no-leading-zero (suc f) x h i =
 pub parse-text : (x : ℕ) → x < 2 ^ 64 → parseOf (textOf x) ≡ Value x
 parse-text x h =
     let p = places-some 19 x in
-    let l = digits-length (places 19 x) x in
+    let l = digits-length (numDigits 19 x) x in
     let w : x < 10 ^ 20 = omega arith in
-    let v : valueFrom 0 (textOf x) ≡ x = digits-value (places 19 x) x ∙ mod-eq-of-lt (places-hold 19 x w) in
-    parse-digits (textOf x) (λ (e : length (textOf x) ≡ 0). omega arith) (digits-all (places 19 x) x)
+    let v : valueFrom 0 (textOf x) ≡ x = digits-value (numDigits 19 x) x ∙ mod-eq-of-lt (places-hold 19 x w) in
+    parse-digits (textOf x) (λ (e : length (textOf x) ≡ 0). omega arith) (digits-all (numDigits 19 x) x)
     ∙ rw v (ap (λ (b : Bool). cond b (Value x) TooLarge) (lt-ltb x (2 ^ 64) h))
 
 -- what a write leaves between its start and its end parses to the number

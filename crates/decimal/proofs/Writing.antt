@@ -10,37 +10,37 @@ use lib.Seq.{set-split, drop-at, length-take-le, take-set-le}
 use lib.Dec.{ltb}
 use borrow.Author.Tests.{lt-ltb, le-ltb, le-leb, lt-leb}
 use Rattle.decimal.specs.declared.Written.the-variants.{End, NoRoom}
-use Rattle.decimal.specs.Decimal.{digits, places, left, writeOf}
+use Rattle.decimal.specs.Decimal.{digits, numDigits, left, writeOf}
 
 pub digits-length : (k x : ℕ) → length (digits k x) ≡ k
 unfolding digits
 digits-length zero x = refl
 digits-length (suc k) x = length-append (digits k (x / 10)) ((48 + x % 10) ∷ []) ∙ (let h = digits-length k (x / 10) in omega arith)
 
-pub places-small : (f x : ℕ) → x < 10 → places f x ≡ 1
-unfolding places
+pub places-small : (f x : ℕ) → x < 10 → numDigits f x ≡ 1
+unfolding numDigits
 places-small zero x h = refl
 places-small (suc f) x h = simp (lt-ltb _ _ h)
 
-pub places-more : (f x : ℕ) → 10 ≤ x → places (suc f) x ≡ suc (places f (x / 10))
-unfolding places
+pub places-more : (f x : ℕ) → 10 ≤ x → numDigits (suc f) x ≡ suc (numDigits f (x / 10))
+unfolding numDigits
 places-more f x h = simp (le-ltb _ _ h)
 
-places-some-by : (f x : ℕ) (t : Bool) → ltb x 10 ≡ t → 1 ≤ cond t 1 (suc (places f (x / 10)))
+places-some-by : (f x : ℕ) (t : Bool) → ltb x 10 ≡ t → 1 ≤ cond t 1 (suc (numDigits f (x / 10)))
 places-some-by f x true e = omega arith
 places-some-by f x false e = omega arith
 
-pub places-some : (f x : ℕ) → 1 ≤ places f x
-unfolding places
+pub places-some : (f x : ℕ) → 1 ≤ numDigits f x
+unfolding numDigits
 places-some zero x = omega arith
 places-some (suc f) x = places-some-by f x (ltb x 10) refl
 
 -- a turn of the count: one digit is passed
-pub count-more : (k x : ℕ) → k < 20 → 10 ≤ x → places (20 - k) x ≡ suc (places (20 - (k + 1)) (x / 10))
+pub count-more : (k x : ℕ) → k < 20 → 10 ≤ x → numDigits (20 - k) x ≡ suc (numDigits (20 - (k + 1)) (x / 10))
 count-more k x h i = let e : 20 - k ≡ suc (20 - (k + 1)) = omega arith in rw e (places-more (20 - (k + 1)) x i)
 
-pub count-end : (k x : ℕ) → 20 ≤ k → places (20 - k) x ≡ 1
-unfolding places
+pub count-end : (k x : ℕ) → 20 ≤ k → numDigits (20 - k) x ≡ 1
+unfolding numDigits
 count-end k x h = let e : 20 - k ≡ 0 = omega arith in rw e
 
 -- the last k digits of x written over l from `at` on, the last one first
@@ -71,7 +71,7 @@ put-over (suc k) x l at h =
     put-over k (x / 10) (set l (at + k) d) at n
     ∙ rw (take-set-le at l (at + k) d (omega arith), drop-set-same l (at + k) d m, add-suc, append-assoc)
 
-module _ (x : ℕ) (l : List ℕ) (at n : ℕ) (e : n ≡ places 19 x) where
+module _ (x : ℕ) (l : List ℕ) (at n : ℕ) (e : n ≡ numDigits 19 x) where
   pub write-none : length l < at + n → left NoRoom l ≡ writeOf x l at
   unfolding writeOf
   write-none h = rw (← e, digits-length) (sym (simp (lt-leb _ _ h)))

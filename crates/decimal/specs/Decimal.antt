@@ -35,13 +35,13 @@ digits zero x = []
 digits (suc k) x = digits k (x / 10) ++ (48 + x % 10) ∷ []
 
 -- how many digits x has, for x below 10 ^ (f + 1)
-unfoldable pub places : ℕ → ℕ → ℕ
-places zero x = 1
-places (suc f) x = cond (ltb x 10) 1 (suc (places f (x / 10)))
+unfoldable pub numDigits : ℕ → ℕ → ℕ
+numDigits zero x = 1
+numDigits (suc f) x = cond (ltb x 10) 1 (suc (numDigits f (x / 10)))
 
 -- the digits of a u64, of which there are 20 at most, with no leading zero
 abbrev pub textOf : ℕ → List ℕ
-textOf x = digits (places 19 x) x
+textOf x = digits (numDigits 19 x) x
 
 -- what a write leaves: its answer and every byte lent
 pub record Left : Type 0 where

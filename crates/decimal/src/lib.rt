@@ -4,7 +4,7 @@ ghost use mathlib.Core.List.{_++_};
 ghost use mathlib.Core.Path.{_≡_};
 ghost use Prim.Native.Nat.{_+_, _≤_};
 ghost use lib.ListN.{length, take, drop};
-ghost use Rattle.decimal.specs.Decimal.{isDigit, allDigits, valueFrom, sized, parseOf, digits, places, left, writeOf};
+ghost use Rattle.decimal.specs.Decimal.{isDigit, allDigits, valueFrom, sized, parseOf, digits, numDigits, left, writeOf};
 
 pub enum Parsed {
     Value(u64),
@@ -100,7 +100,7 @@ fn value(text: &[u8]) -> Parsed
 
 // How many digits x has.
 fn count(x: u64) -> usize
-    ensures { λ r. ⌜ r ≡ places 19 x ⌝ }
+    ensures { λ r. ⌜ r ≡ numDigits 19 x ⌝ }
     ensures { λ r. ⌜ r ≤ 20 ⌝ }
 {
     let mut rest = x;

@@ -1,14 +1,13 @@
 -- An image is accepted exactly if its header, its bits and its indexes are as the functions of the crate find them. Assumes nothing.
 use mathlib.Core.Path.{_≡_, refl, sym, ap, ap₂, _∙_, subst}
 use mathlib.Core.List.{List, [], _∷_, _++_, append-assoc}
-use mathlib.Core.Bool.{Bool, true, false, _&&_}
+use mathlib.Core.Bool.{Bool, true, false, _&&_, cond}
 use Prim.Native.Nat.{ℕ, _+_, _-_, _*_, _≤_}
 use native.Mathlib.Omega.{arith}
 use borrow.Author.Tests.{eqb-true, eqb-false}
 use lib.Dec.{eqb}
 use lib.ListN.{length, getD, take, drop, length-drop, take-append-drop}
 use lib.Seq.{length-take-le, take-take, drop-drop, take-at}
-use Rattle.errors.specs.Answer.{pick}
 use Rattle.broadword.specs.Fields.{flag}
 use Rattle.bit_words.specs.Vector.{wordsFor, numberWords, invalid}
 use Rattle.bit_words.proofs.Runs.{Fit}
@@ -138,13 +137,13 @@ module _ (i : List ℕ) (head : Headed i) (bits : holds (universe i) (declared i
     ones = indexWords (highPositions u n true T)
 
     abbrev zeros : List ℕ
-    zeros = pick c (indexWords (highPositions u n false T)) []
+    zeros = cond c (indexWords (highPositions u n false T)) []
 
     ones-is : take (zerosIn i - onesIn i) (drop (onesIn i) i) ≡ ones
     ones-is = indexed .ones ∙ ap (λ (h : List ℕ). indexWords (positions true h (highLen u n))) high-is
 
     zeros-is : drop (zerosIn i) i ≡ zeros
-    zeros-is = indexed .zeros ∙ ap (λ (h : List ℕ). pick c (indexWords (positions false h (highLen u n))) []) high-is
+    zeros-is = indexed .zeros ∙ ap (λ (h : List ℕ). cond c (indexWords (positions false h (highLen u n))) []) high-is
 
     tail-is : drop (hw + lw) (drop 6 i) ≡ ones ++ zeros
     tail-is =
@@ -169,19 +168,19 @@ module _ (i : List ℕ) (head : Headed i) (bits : holds (universe i) (declared i
     fourth : getD i 4 0 ≡ spilled (highPositions u n true T)
     fourth = over-is m (length (highPositions u n true T)) (getD i 4 0) (spilled (highPositions u n true T)) (length ones) length-ones (index-length (highPositions u n true T)) (sym (ones-many u n T rises few ∙ length-T))
 
-    length-zeros : length (drop (zerosIn i) i) ≡ pick c (indexLen (highOf i - m) (getD i 5 0)) 0
+    length-zeros : length (drop (zerosIn i) i) ≡ cond c (indexLen (highOf i - m) (getD i 5 0)) 0
     length-zeros = length-drop (zerosIn i) i ∙ (let l = head .long in omega arith)
 
-    fifth-by : (b : Bool) → (b ≡ false → getD i 5 0 ≡ 0) → length (pick b (indexWords (highPositions u n false T)) []) ≡ pick b (indexLen (highOf i - m) (getD i 5 0)) 0 → getD i 5 0 ≡ pick b (spilled (highPositions u n false T)) 0
+    fifth-by : (b : Bool) → (b ≡ false → getD i 5 0 ≡ 0) → length (cond b (indexWords (highPositions u n false T)) []) ≡ cond b (indexLen (highOf i - m) (getD i 5 0)) 0 → getD i 5 0 ≡ cond b (spilled (highPositions u n false T)) 0
     fifth-by true z e =
         over-is (highOf i - m) (length (highPositions u n false T)) (getD i 5 0) (spilled (highPositions u n false T)) (length (indexWords (highPositions u n false T))) e (index-length (highPositions u n false T))
         (sym (zeros-many u n T rises few ∙ ap (λ (k : ℕ). highLen u n - k) length-T))
     fifth-by false z e = z refl
 
-    fifth : getD i 5 0 ≡ pick c (spilled (highPositions u n false T)) 0
+    fifth : getD i 5 0 ≡ cond c (spilled (highPositions u n false T)) 0
     fifth = fifth-by c (head .none) (sym (ap length zeros-is) ∙ length-zeros)
 
-    header-is : take 6 i ≡ u ∷ n ∷ length T ∷ flag c ∷ spilled (highPositions u n true T) ∷ pick c (spilled (highPositions u n false T)) 0 ∷ []
+    header-is : take 6 i ≡ u ∷ n ∷ length T ∷ flag c ∷ spilled (highPositions u n true T) ∷ cond c (spilled (highPositions u n false T)) 0 ∷ []
     header-is =
         six-of i (head .six)
         ∙ (λ x. u ∷ n ∷ sym length-T x ∷ flag-eqb (getD i 3 0) (head .choice) c refl x ∷ fourth x ∷ fifth x ∷ [])
@@ -191,7 +190,7 @@ module _ (i : List ℕ) (head : Headed i) (bits : holds (universe i) (declared i
     image-is =
         let low : List ℕ = numberWords lw (lowNumber (lowLen u n) T) in
         sym (take-append-drop 6 i) ∙ ap₂ (λ (a b : List ℕ). a ++ b) header-is (body-is ∙ append-assoc (highWords u n T) low (ones ++ zeros))
-        ∙ ap (λ (k : ℕ). (u ∷ n ∷ length T ∷ flag c ∷ spilled (highPositions u n true T) ∷ pick c (spilled (highPositions u n false T)) 0 ∷ []) ++ (highWords u n T ++ (numberWords (wordsFor (k * lowLen u n)) (lowNumber (lowLen u n) T) ++ (ones ++ zeros)))) (sym length-T)
+        ∙ ap (λ (k : ℕ). (u ∷ n ∷ length T ∷ flag c ∷ spilled (highPositions u n true T) ∷ cond c (spilled (highPositions u n false T)) 0 ∷ []) ++ (highWords u n T ++ (numberWords (wordsFor (k * lowLen u n)) (lowNumber (lowLen u n) T) ++ (ones ++ zeros)))) (sym length-T)
 
     pub accepts : Fit i → accepted i ≡ true
     unfolding accepted

@@ -1,10 +1,10 @@
 -- The answers of opening and of select, case by case. Assumes nothing.
 use mathlib.Core.Path.{_≡_, refl, sym, ap, _∙_, subst}
 use mathlib.Core.List.{List}
-use mathlib.Core.Bool.{Bool, true, false}
+use mathlib.Core.Bool.{Bool, true, false, cond}
 use Prim.Native.Nat.{ℕ}
 use native.Mathlib.Omega.{arith}
-use Rattle.errors.specs.Answer.{Answer, refused, pick}
+use Rattle.errors.specs.Answer.{Answer, refused}
 use Rattle.errors.specs.Refusal.{numberOf}
 use Rattle.errors.specs.declared.Refusal.{Refusal}
 use Rattle.errors.specs.declared.Refusal.the-variants.{Invalid}
@@ -33,15 +33,15 @@ module _ (i : List ℕ) where
 
   pub open-refused : (accepted i ≡ true → ⊥) → opened.Refused Invalid ≡ openOf i
   unfolding openOf
-  open-refused h = sym (ap (λ (b : Bool). pick b (opened.Image (partsOf i)) (opened.Refused Invalid)) (not-accepted (accepted i) h))
+  open-refused h = sym (ap (λ (b : Bool). cond b (opened.Image (partsOf i)) (opened.Refused Invalid)) (not-accepted (accepted i) h))
 
   pub open-image : (p : Parts) → p ≡ partsOf i → accepted i ≡ true → opened.Image p ≡ openOf i
   unfolding openOf
-  open-image p e h = ap opened.Image e ∙ sym (ap (λ (b : Bool). pick b (opened.Image (partsOf i)) (opened.Refused Invalid)) h)
+  open-image p e h = ap opened.Image e ∙ sym (ap (λ (b : Bool). cond b (opened.Image (partsOf i)) (opened.Refused Invalid)) h)
 
   -- ---- select
 
-  image-by : (b : Bool) (p q : Parts) → opened.Image p ≡ pick b (opened.Image q) (opened.Refused Invalid) → (b ≡ true) × (p ≡ q)
+  image-by : (b : Bool) (p q : Parts) → opened.Image p ≡ cond b (opened.Image q) (opened.Refused Invalid) → (b ≡ true) × (p ≡ q)
   image-by true p q e = (refl, cc)
   image-by false p q e = let z : _≡_ {A = ℕ} 0 1 = cc in absurd (omega arith)
 
@@ -49,7 +49,7 @@ module _ (i : List ℕ) where
   unfolding openOf
   is-open r p er e = image-by (accepted i) p (partsOf i) (sym e ∙ er)
 
-  refused-by : (b : Bool) (k : Refusal) (q : Parts) (a : Answer) → opened.Refused k ≡ pick b (opened.Image q) (opened.Refused Invalid) → refused (numberOf k) ≡ pick b a (refused 7)
+  refused-by : (b : Bool) (k : Refusal) (q : Parts) (a : Answer) → opened.Refused k ≡ cond b (opened.Image q) (opened.Refused Invalid) → refused (numberOf k) ≡ cond b a (refused 7)
   refused-by true k q a e = let z : _≡_ {A = ℕ} 0 1 = cc in absurd (omega arith)
   refused-by false k q a e = let d : k ≡ Invalid = cc in ap (λ (x : Refusal). refused (numberOf x)) d
 
@@ -59,4 +59,4 @@ module _ (i : List ℕ) where
 
   pub select-time : (a : Answer) (j : ℕ) → accepted i ≡ true → a ≡ timeOf i j → a ≡ selectOf i j
   unfolding selectOf
-  select-time a j h e = e ∙ sym (ap (λ (b : Bool). pick b (timeOf i j) (refused 7)) h)
+  select-time a j h e = e ∙ sym (ap (λ (b : Bool). cond b (timeOf i j) (refused 7)) h)

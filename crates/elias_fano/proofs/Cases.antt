@@ -2,13 +2,13 @@
 -- Assumes nothing.
 use mathlib.Core.Path.{_≡_}
 use mathlib.Core.List.{List, _++_}
-use mathlib.Core.Bool.{Bool, true, false, _&&_}
+use mathlib.Core.Bool.{Bool, true, false, _&&_, cond}
 use Prim.Native.Nat.{ℕ, _+_, _≤_, _<_}
 use native.Mathlib.Omega.{arith}
 use borrow.Author.Tests.{le-ltb, lt-ltb, le-leb, lt-leb, eq-eqb, ne-eqb, leb-true}
 use lib.Dec.{eqb, leb, ltb}
 use lib.ListN.{length, drop, replicate}
-use Rattle.errors.specs.Answer.{value, done, refused, pick}
+use Rattle.errors.specs.Answer.{value, done, refused}
 use Rattle.elias_fano_words.specs.Sizes.{startLen}
 use Rattle.elias_fano_words.proofs.Rising.{and-true}
 use Rattle.elias_fano.specs.declared.builder.Builder.{Builder}
@@ -66,7 +66,7 @@ pub record Sound (b : Builder) : Type 0 where
 pub is-sound : (b : Builder) → sound b ≡ true → Sound b
 unfolding sound
 is-sound b h =
-    let d = pick (eqb (b .«num_pushed») 0) (eqb (b .last) 0) (ltb (b .last) (b .universe)) in
+    let d = cond (eqb (b .«num_pushed») 0) (eqb (b .last) 0) (ltb (b .last) (b .universe)) in
     let c₂ = leb (b .«num_pushed») (b .«num_vals») && d in
     let c₁ = leb (b .«num_vals») 16777216 && c₂ in
     let p₀ = and-true (leb 1 (b .«num_vals»)) c₁ h in

@@ -2,7 +2,7 @@
 -- Assumes nothing.
 use mathlib.Core.Path.{_≡_, refl, sym, ap, ap₂, _∙_, subst, subst⁻¹}
 use mathlib.Core.List.{List, [], _∷_, _++_, append-assoc}
-use mathlib.Core.Bool.{Bool, true, false}
+use mathlib.Core.Bool.{Bool, true, false, cond}
 use Prim.Native.Nat.{ℕ, zero, suc, _+_, _-_, _*_, _/_, _%_, _^_, _≤_, _<_}
 use native.Mathlib.Nat.{le-refl, le-trans, le-of-eq, mul-le-mul, not-suc-le-zero, le-of-suc-le-suc}
 use native.Mathlib.Omega.{arith}
@@ -10,7 +10,6 @@ use mir.Syntax.{w64}
 use mir.Val.{Fits}
 use lib.ListN.{length, take, drop, length-append, length-drop, take-append-drop}
 use lib.Seq.{length-take-le, take-take, take-add, take-at, drop-at, drop-drop}
-use Rattle.errors.specs.Answer.{pick}
 use Rattle.broadword.specs.Fields.{flag}
 use Rattle.bit_words.specs.Vector.{wordsFor, numberWords, invalid}
 use Rattle.darray.specs.Index.{blocks, lanes, laneWords, overflow, table, indexWords}
@@ -36,15 +35,15 @@ take-words zero k v h = refl
 take-words (suc j) zero v h = absurd (not-suc-le-zero h)
 take-words (suc j) (suc k) v h = ap (λ (l : List ℕ). (v % 2 ^ 64) ∷ l) (take-words j k (v / 2 ^ 64) (le-of-suc-le-suc h))
 
-pick-spilled : (c : Bool) (P : List ℕ) → pick c (spilled P) 0 ≡ spilled (pick c P [])
+cond-spilled : (c : Bool) (P : List ℕ) → cond c (spilled P) 0 ≡ spilled (cond c P [])
 unfolding blocks overflow
-pick-spilled true P = refl
-pick-spilled false P = refl
+cond-spilled true P = refl
+cond-spilled false P = refl
 
-pick-words : (c : Bool) (P : List ℕ) → pick c (indexWords P) [] ≡ indexWords (pick c P [])
+cond-words : (c : Bool) (P : List ℕ) → cond c (indexWords P) [] ≡ indexWords (cond c P [])
 unfolding indexWords table blocks lanes laneWords overflow
-pick-words true P = refl
-pick-words false P = refl
+cond-words true P = refl
+cond-words false P = refl
 
 module _ (u n m : ℕ) (w : List ℕ) (f : Holding u n m w) where
   abbrev l : ℕ
@@ -174,17 +173,17 @@ module _ (u n m : ℕ) (w : List ℕ) (f : Holding u n m w) where
       fourth : spilled (highPositions u n true T) ≡ p .ones .overflow
       fourth = ap spilled ones-positions ∙ spilled-is (positions true hs H) (p .ones) (q .ones)
 
-      fifth : pick c (spilled (highPositions u n false T)) 0 ≡ p .zeros .overflow
-      fifth = ap (λ (P : List ℕ). pick c (spilled P) 0) zeros-positions ∙ pick-spilled c (positions false hs H) ∙ spilled-is (zerosOf c hs H) (p .zeros) (q .zeros)
+      fifth : cond c (spilled (highPositions u n false T)) 0 ≡ p .zeros .overflow
+      fifth = ap (λ (P : List ℕ). cond c (spilled P) 0) zeros-positions ∙ cond-spilled c (positions false hs H) ∙ spilled-is (zerosOf c hs H) (p .zeros) (q .zeros)
 
       low-is : lowWords u n T ≡ numberWords lw (lowNumber l T)
       unfolding lowWords
       low-is = ap (λ (k : ℕ). numberWords (wordsFor (k * l)) (lowNumber l T)) length-T
 
-      body-is : highWords u n T ++ (lowWords u n T ++ (indexWords (highPositions u n true T) ++ pick c (indexWords (highPositions u n false T)) [])) ≡ take (hw + lw) (drop 6 w) ++ (ones ++ zeros)
+      body-is : highWords u n T ++ (lowWords u n T ++ (indexWords (highPositions u n true T) ++ cond c (indexWords (highPositions u n false T)) [])) ≡ take (hw + lw) (drop 6 w) ++ (ones ++ zeros)
       body-is =
           ap₂ (λ (a b : List ℕ). highWords u n T ++ (a ++ b)) low-is
-          (ap₂ (λ (P Q : List ℕ). indexWords P ++ pick c (indexWords Q) []) ones-positions zeros-positions ∙ ap (λ (Z : List ℕ). ones ++ Z) (pick-words c (positions false hs H)))
+          (ap₂ (λ (P Q : List ℕ). indexWords P ++ cond c (indexWords Q) []) ones-positions zeros-positions ∙ ap (λ (Z : List ℕ). ones ++ Z) (cond-words c (positions false hs H)))
           ∙ sym (append-assoc (highWords u n T) (numberWords lw (lowNumber l T)) (ones ++ zeros)) ∙ ap (λ (B : List ℕ). B ++ (ones ++ zeros)) (sym bits-is)
 
       pub image-is : imageIn u n m c w ≡ front ++ (ones ++ zeros)

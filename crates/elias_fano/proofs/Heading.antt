@@ -1,20 +1,19 @@
 -- What each test of a header says of the image. Assumes nothing.
 use mathlib.Core.Path.{_≡_, refl, sym, ap, ap₂, _∙_}
 use mathlib.Core.List.{List}
-use mathlib.Core.Bool.{Bool, true, false}
+use mathlib.Core.Bool.{Bool, true, false, cond}
 use Prim.Native.Nat.{ℕ, _+_, _-_, _^_, _≤_, _<_}
 use native.Mathlib.Omega.{arith}
 use mir.Syntax.{w64}
 use mir.Val.{Fits}
 use lib.ListN.{length, getD}
-use Rattle.errors.specs.Answer.{pick}
 use Rattle.elias_fano.specs.declared.image.Parts.{Parts}
 use Rattle.elias_fano.specs.Accept.{universe, declared, pushed, ranked, accepted, indexLen, partsBy, partsOf}
 use Rattle.elias_fano.specs.Opening.{highOf, zerosIn, endIn, Headed}
 use Rattle.elias_fano.proofs.Accepting.{found}
 use Rattle.elias_fano.proofs.Limits as limits
 
-fifth-le : (b : Bool) (k x : ℕ) → (b ≡ false → x ≡ 0) → x ≤ pick b (indexLen k x) 0
+fifth-le : (b : Bool) (k x : ℕ) → (b ≡ false → x ≡ 0) → x ≤ cond b (indexLen k x) 0
 fifth-le true k x z = omega arith
 fifth-le false k x z = let e = z refl in omega arith
 
@@ -44,7 +43,7 @@ module _ (i : List ℕ) where
       let z = fifth-le (ranked i) (highOf i - pushed i) (getD i 5 0) (f .none) in
       omega arith
 
-  module _ (p : Parts) (z : ℕ) (ep : p ≡ partsOf i) (ez : z ≡ pick (p .rank) (indexLen (p .«high_len» - p .«num_pushed») (getD i 5 0)) 0) where
+  module _ (p : Parts) (z : ℕ) (ep : p ≡ partsOf i) (ez : z ≡ cond (p .rank) (indexLen (p .«high_len» - p .«num_pushed») (getD i 5 0)) 0) where
     rank-is : p .rank ≡ ranked i
     unfolding partsBy
     rank-is = ap (λ (q : Parts). q .rank) ep
@@ -62,7 +61,7 @@ module _ (i : List ℕ) where
     zeros-is = ap (λ (q : Parts). q .«zeros_at») ep
 
     end-is : p .«zeros_at» + z ≡ endIn i
-    end-is = ap₂ (λ (a b : ℕ). a + b) zeros-is (ez ∙ (λ x. pick (rank-is x) (indexLen (high-is x - pushed-is x) (getD i 5 0)) 0))
+    end-is = ap₂ (λ (a b : ℕ). a + b) zeros-is (ez ∙ (λ x. cond (rank-is x) (indexLen (high-is x - pushed-is x) (getD i 5 0)) 0))
 
     pub other-length : (p .«zeros_at» + z ≡ length i → ⊥) → accepted i ≡ true → ⊥
     other-length h a = h (end-is ∙ sym (found i a .head .long))
@@ -101,11 +100,11 @@ module _ (i : List ℕ) where
         let h = limits.pushed-le (universe i) (declared i) (pushed i) hu positive most few in
         omega arith
 
-    index-small : (b : Bool) (k x : ℕ) → k ≤ 50331649 → pick b (indexLen k x) 0 ≤ 100000000 + x
+    index-small : (b : Bool) (k x : ℕ) → k ≤ 50331649 → cond b (indexLen k x) 0 ≤ 100000000 + x
     index-small true k x h = omega arith
     index-small false k x h = omega arith
 
-    pub end-fits : (z : ℕ) → z ≡ pick (p .rank) (indexLen (p .«high_len» - p .«num_pushed») (getD i 5 0)) 0 → getD i 4 0 < 2 ^ 62 → getD i 5 0 < 2 ^ 62 → Fits w64 (p .«zeros_at» + z)
+    pub end-fits : (z : ℕ) → z ≡ cond (p .rank) (indexLen (p .«high_len» - p .«num_pushed») (getD i 5 0)) 0 → getD i 4 0 < 2 ^ 62 → getD i 5 0 < 2 ^ 62 → Fits w64 (p .«zeros_at» + z)
     unfolding partsBy
     end-fits z ez h4 h5 = record {
       fits =

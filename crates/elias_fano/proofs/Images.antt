@@ -1,13 +1,12 @@
 -- The image of a list in order is accepted and holds that list, and an accepted image is the image of the list that it holds. Assumes nothing.
 use mathlib.Core.Path.{_≡_, refl, sym, _∙_}
 use mathlib.Core.List.{List, [], _++_, append-assoc}
-use mathlib.Core.Bool.{Bool, true, false, _&&_}
+use mathlib.Core.Bool.{Bool, true, false, _&&_, cond}
 use Prim.Native.Nat.{ℕ, _*_, _^_, _≤_, _<_}
 use native.Mathlib.Nat.{le-refl}
 use borrow.Author.Tests.{le-leb, lt-ltb, ltb-true, leb-true}
 use lib.Dec.{eqb, leb, ltb}
 use lib.ListN.{length, drop}
-use Rattle.errors.specs.Answer.{pick}
 use Rattle.broadword.specs.Fields.{flag}
 use Rattle.bit_words.specs.Vector.{wordsFor, numberWords}
 use Rattle.darray.specs.Index.{indexWords}
@@ -70,7 +69,7 @@ flag-one false = refl
 module _ (u n : ℕ) (c : Bool) (T : List ℕ) where
   -- the words after the header
   abbrev pub indexes : List ℕ
-  indexes = indexWords (highPositions u n true T) ++ pick c (indexWords (highPositions u n false T)) []
+  indexes = indexWords (highPositions u n true T) ++ cond c (indexWords (highPositions u n false T)) []
 
   pub image-universe : universe (image u n c T) ≡ u
   unfolding image

@@ -1,11 +1,11 @@
 -- What a validation of an index says, and what it takes for both indexes of an image. Assumes nothing.
 use mathlib.Core.Path.{_≡_, refl, sym, ap, _∙_}
 use mathlib.Core.List.{List, []}
-use mathlib.Core.Bool.{Bool, true, false}
+use mathlib.Core.Bool.{Bool, true, false, cond}
 use Prim.Native.Nat.{ℕ, _-_, _^_, _<_}
 use native.Mathlib.Omega.{arith}
 use lib.ListN.{take, drop}
-use Rattle.errors.specs.Answer.{value, refused, pick}
+use Rattle.errors.specs.Answer.{value, refused}
 use Rattle.errors.specs.Refusal.{numberOf}
 use Rattle.errors.specs.declared.Refusal.{Refusal}
 use Rattle.broadword.specs.Fields.{flag}
@@ -65,8 +65,8 @@ module _ (i high ones zeros : List ℕ) (len : ℕ)
   first-is : (x : Bool) → Decides x (ones ≡ indexWords (positions true high len)) → x ≡ true → take (zerosIn i - onesIn i) (drop (onesIn i) i) ≡ indexWords (positions true (highIn i) (highOf i))
   first-is x d e = sym eo ∙ d .yes e ∙ moved true
 
-  picked : (b : Bool) → ranked i ≡ b → pick (ranked i) (indexWords (positions false (highIn i) (highOf i))) [] ≡ pick b (indexWords (positions false (highIn i) (highOf i))) []
-  picked b e = ap (λ (x : Bool). pick x (indexWords (positions false (highIn i) (highOf i))) []) e
+  picked : (b : Bool) → ranked i ≡ b → cond (ranked i) (indexWords (positions false (highIn i) (highOf i))) [] ≡ cond b (indexWords (positions false (highIn i) (highOf i))) []
+  picked b e = ap (λ (x : Bool). cond x (indexWords (positions false (highIn i) (highOf i))) []) e
 
   -- it is right, and the second decides
   pub then-zeros : (x y : Bool) → Decides x (ones ≡ indexWords (positions true high len)) → x ≡ true → ranked i ≡ true → Decides y (zeros ≡ indexWords (positions false high len)) → Decides y (Indexes i)

@@ -1,14 +1,14 @@
 -- What a finish knows of a builder and its words after each of its tests. Assumes nothing.
 use mathlib.Core.Path.{_≡_, refl, sym, ap, ap₂, _∙_, subst}
 use mathlib.Core.List.{List}
-use mathlib.Core.Bool.{Bool, true, false, _&&_}
+use mathlib.Core.Bool.{Bool, true, false, _&&_, cond}
 use Prim.Native.Nat.{ℕ, _-_, _*_, _≤_}
 use native.Mathlib.Nat.{le-refl, mul-le-mul}
 use native.Mathlib.Omega.{arith}
 use lib.Dec.{eqb}
 use lib.ListN.{length, take, drop, length-drop}
 use lib.Seq.{length-take-le}
-use Rattle.errors.specs.Answer.{value, pick}
+use Rattle.errors.specs.Answer.{value}
 use Rattle.errors.specs.declared.Refusal.{Refusal}
 use Rattle.elias_fano_words.specs.Checks.{Checkable}
 use Rattle.elias_fano_words.specs.Sizes.{lowLen, highLen, startLen, sizesOf}
@@ -27,7 +27,7 @@ use Rattle.elias_fano.proofs.Cases as cases
 
 -- ---- what a check of the bits says
 
-module _ (b : Builder) (ws : List ℕ) (r : Checked) (e : r ≡ pick (holds (b .universe) (b .«num_vals») (b .«num_pushed») ws) (checked.Last (lastOf (timesIn (b .universe) (b .«num_vals») (b .«num_pushed») ws))) checked.Wrong) where
+module _ (b : Builder) (ws : List ℕ) (r : Checked) (e : r ≡ cond (holds (b .universe) (b .«num_vals») (b .«num_pushed») ws) (checked.Last (lastOf (timesIn (b .universe) (b .«num_vals») (b .«num_pushed») ws))) checked.Wrong) where
   abbrev h : Bool
   h = holds (b .universe) (b .«num_vals») (b .«num_pushed») ws
 
@@ -41,7 +41,7 @@ module _ (b : Builder) (ws : List ℕ) (r : Checked) (e : r ≡ pick (holds (b .
   unfolding intactWords
   is-last x d = go h (sym d ∙ e)
     where
-      go : (k : Bool) → checked.Last x ≡ pick k (checked.Last t) checked.Wrong → eqb x (b .last) ≡ (k && eqb t (b .last))
+      go : (k : Bool) → checked.Last x ≡ cond k (checked.Last t) checked.Wrong → eqb x (b .last) ≡ (k && eqb t (b .last))
       go true q = ap (λ (y : ℕ). eqb y (b .last)) (let z : x ≡ t = cc in z)
       go false q = absurd (apart x q)
 
@@ -49,7 +49,7 @@ module _ (b : Builder) (ws : List ℕ) (r : Checked) (e : r ≡ pick (holds (b .
   unfolding intactWords
   is-wrong d = go h (sym d ∙ e)
     where
-      go : (k : Bool) → checked.Wrong ≡ pick k (checked.Last t) checked.Wrong → false ≡ (k && eqb t (b .last))
+      go : (k : Bool) → checked.Wrong ≡ cond k (checked.Last t) checked.Wrong → false ≡ (k && eqb t (b .last))
       go true q = absurd (apart t (sym q))
       go false q = refl
 

@@ -1,13 +1,12 @@
 -- The parts of the image of a list: how long each is, and where it stands. Assumes nothing.
 use mathlib.Core.Path.{_≡_, refl, sym, ap, ap₂, _∙_}
 use mathlib.Core.List.{List, [], _++_, append-assoc}
-use mathlib.Core.Bool.{Bool, true, false}
+use mathlib.Core.Bool.{Bool, true, false, cond}
 use Prim.Native.Nat.{ℕ, zero, suc, _+_, _-_, _*_, _≤_}
 use native.Mathlib.Nat.{le-refl}
 use native.Mathlib.Omega.{arith}
 use lib.ListN.{length, take, drop, length-append}
 use lib.Seq.{take-at, drop-at, drop-append-add}
-use Rattle.errors.specs.Answer.{pick}
 use Rattle.broadword.specs.Bits.{count}
 use Rattle.broadword.specs.Fields.{flag}
 use Rattle.broadword.proofs.Count.{count-same}
@@ -56,15 +55,15 @@ module _ (u n : ℕ) (T : List ℕ) (r : rising u 0 T ≡ true) (few : length T 
 
 -- ---- the parts
 
-length-pick : (c : Bool) (A : List ℕ) → length (pick c A []) ≡ pick c (length A) 0
-length-pick true A = refl
-length-pick false A = refl
+length-cond : (c : Bool) (A : List ℕ) → length (cond c A []) ≡ cond c (length A) 0
+length-cond true A = refl
+length-cond false A = refl
 
 flag-le : (c : Bool) → flag c ≤ 1
 flag-le true = omega arith
 flag-le false = omega arith
 
-none-picked : (c : Bool) (x : ℕ) → c ≡ false → pick c x 0 ≡ 0
+none-picked : (c : Bool) (x : ℕ) → c ≡ false → cond c x 0 ≡ 0
 none-picked c x e = rw e
 
 module _ (u n : ℕ) (c : Bool) (T : List ℕ) (f : Fits u n T) where
@@ -81,7 +80,7 @@ module _ (u n : ℕ) (c : Bool) (T : List ℕ) (f : Fits u n T) where
   ones = indexWords (highPositions u n true T)
 
   abbrev zeros : List ℕ
-  zeros = pick c (indexWords (highPositions u n false T)) []
+  zeros = cond c (indexWords (highPositions u n false T)) []
 
   abbrev bits : List ℕ
   bits = bitWords u n lw T
@@ -93,13 +92,13 @@ module _ (u n : ℕ) (c : Bool) (T : List ℕ) (f : Fits u n T) where
   length-ones : length ones ≡ indexLen (length T) (spilled (highPositions u n true T))
   length-ones = index-length (highPositions u n true T) ∙ ap (λ (k : ℕ). indexLen k (spilled (highPositions u n true T))) (ones-many u n T (f .rises) (f .few))
 
-  length-zeros : length zeros ≡ pick c (indexLen (highLen u n - length T) (pick c (spilled (highPositions u n false T)) 0)) 0
-  length-zeros = length-pick c (indexWords (highPositions u n false T)) ∙ by c
+  length-zeros : length zeros ≡ cond c (indexLen (highLen u n - length T) (cond c (spilled (highPositions u n false T)) 0)) 0
+  length-zeros = length-cond c (indexWords (highPositions u n false T)) ∙ by c
     where
       P : List ℕ
       P = highPositions u n false T
 
-      by : (c : Bool) → pick c (length (indexWords (highPositions u n false T))) 0 ≡ pick c (indexLen (highLen u n - length T) (pick c (spilled (highPositions u n false T)) 0)) 0
+      by : (c : Bool) → cond c (length (indexWords (highPositions u n false T))) 0 ≡ cond c (indexLen (highLen u n - length T) (cond c (spilled (highPositions u n false T)) 0)) 0
       by true = index-length (highPositions u n false T) ∙ ap (λ (k : ℕ). indexLen k (spilled (highPositions u n false T))) (zeros-many u n T (f .rises) (f .few))
       by false = refl
 
@@ -128,7 +127,7 @@ module _ (u n : ℕ) (c : Bool) (T : List ℕ) (f : Fits u n T) where
       let a = length-bits in
       let b = length-ones in
       let d = length-zeros in
-      let e = ap (λ (x : Bool). pick x (indexLen (highLen u n - length T) (pick c (spilled (highPositions u n false T)) 0)) 0) (image-ranked u n c T) in
+      let e = ap (λ (x : Bool). cond x (indexLen (highLen u n - length T) (cond c (spilled (highPositions u n false T)) 0)) 0) (image-ranked u n c T) in
       omega arith
 
   pub headed : Headed I
@@ -179,7 +178,7 @@ module _ (u n : ℕ) (c : Bool) (T : List ℕ) (f : Fits u n T) where
         ones = ap₂ (λ (k : ℕ) (w : List ℕ). take k w) (let e : zerosIn I - onesIn I ≡ length ones = omega arith in e) (ap (λ (k : ℕ). drop k I) (let e : onesIn I ≡ 6 + (hw + lw) = omega arith in e) ∙ rest-in)
             ∙ take-at ones zeros (length ones) refl ∙ ap p (sym high-in);
         zeros = ap (λ (k : ℕ). drop k I) (let e : zerosIn I ≡ 6 + (hw + lw) + length ones = omega arith in e) ∙ tail-in
-            ∙ (λ x. pick (sym (image-ranked u n c T) x) (indexWords (positions false (sym high-in x) (highLen u n))) []);
+            ∙ (λ x. cond (sym (image-ranked u n c T) x) (indexWords (positions false (sym high-in x) (highLen u n))) []);
       }
 
   -- the low words

@@ -1,13 +1,12 @@
 -- Where the parts of an image with a right header stand: each ends where the next begins, inside the image. Assumes nothing.
 use mathlib.Core.Path.{_≡_, refl, sym, ap, ap₂, _∙_, subst}
 use mathlib.Core.List.{List, []}
-use mathlib.Core.Bool.{Bool, true, false}
+use mathlib.Core.Bool.{Bool, true, false, cond}
 use Prim.Native.Nat.{ℕ, _+_, _-_, _*_, _^_, _≤_, _<_}
 use native.Mathlib.Nat.{le-of-eq}
 use native.Mathlib.Omega.{arith}
 use lib.ListN.{length, take, drop, length-drop, drop-of-length-le}
 use lib.Seq.{length-take-le, take-all}
-use Rattle.errors.specs.Answer.{pick}
 use Rattle.bit_words.specs.Vector.{wordsFor, invalid}
 use Rattle.elias_fano_words.specs.Checks.{Checkable}
 use Rattle.elias_fano_words.specs.Sizes.{lowLen}
@@ -21,11 +20,11 @@ use Rattle.elias_fano.proofs.Accepting.{valid-part}
 use Rattle.elias_fano.proofs.Limits as limits
 
 -- what a check says
-pub checked-yes : (b : Bool) (x y : ℕ) → checked.Last x ≡ pick b (checked.Last y) checked.Wrong → true ≡ b
+pub checked-yes : (b : Bool) (x y : ℕ) → checked.Last x ≡ cond b (checked.Last y) checked.Wrong → true ≡ b
 checked-yes true x y e = refl
 checked-yes false x y e = let z : _≡_ {A = ℕ} 0 1 = cc in absurd (omega arith)
 
-pub checked-no : (b : Bool) (y : ℕ) → checked.Wrong ≡ pick b (checked.Last y) checked.Wrong → false ≡ b
+pub checked-no : (b : Bool) (y : ℕ) → checked.Wrong ≡ cond b (checked.Last y) checked.Wrong → false ≡ b
 checked-no true y e = let z : _≡_ {A = ℕ} 0 1 = cc in absurd (omega arith)
 checked-no false y e = refl
 
@@ -108,7 +107,7 @@ module _ (i : List ℕ) (p : Parts) (ep : p ≡ partsOf i) (h : Headed i) where
   unfolding partsBy
   held-is = ap (λ (q : Parts). holds (q .universe) (q .«num_vals») (q .«num_pushed») (take (p .«ones_at» - 6) (drop 6 i))) ep ∙ ap (holds (universe i) (declared i) (pushed i)) bits-part
 
-  module _ (r : Checked) (t : ℕ) (er : r ≡ pick (holds (p .universe) (p .«num_vals») (p .«num_pushed») (take (p .«ones_at» - 6) (drop 6 i))) (checked.Last t) checked.Wrong) where
+  module _ (r : Checked) (t : ℕ) (er : r ≡ cond (holds (p .universe) (p .«num_vals») (p .«num_pushed») (take (p .«ones_at» - 6) (drop 6 i))) (checked.Last t) checked.Wrong) where
     pub held : (x : ℕ) → r ≡ checked.Last x → true ≡ holds (universe i) (declared i) (pushed i) (bitsIn i)
     held x e = checked-yes _ x t (sym e ∙ er) ∙ held-is
 

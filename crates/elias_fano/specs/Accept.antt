@@ -1,11 +1,11 @@
 -- When an image is accepted, what it holds, and what the queries answer. i is an image. Document 01, "The image" and "The book of demand 3".
 -- Assumes nothing.
 use mathlib.Core.List.{List}
-use mathlib.Core.Bool.{Bool, _&&_}
+use mathlib.Core.Bool.{Bool, _&&_, cond}
 use Prim.Native.Nat.{ℕ, _+_, _*_, _/_, _^_}
 use lib.Dec.{eqb, leb, ltb}
 use lib.ListN.{length, getD, drop}
-use Rattle.errors.specs.Answer.{Answer, value, none, refused, pick}
+use Rattle.errors.specs.Answer.{Answer, value, none, refused}
 use Rattle.errors.specs.Refusal.{numberOf}
 use Rattle.errors.specs.declared.Refusal.the-variants.{Invalid}
 use Rattle.bit_words.specs.Vector.{wordsFor}
@@ -79,7 +79,7 @@ partsOf i = partsBy (universe i) (declared i) (pushed i) (ranked i) (getD i 4 0)
 -- ---- the queries; 7 comes first
 
 unfoldable pub openOf : List ℕ → Opened
-openOf i = pick (accepted i) (opened.Image (partsOf i)) (opened.Refused Invalid)
+openOf i = cond (accepted i) (opened.Image (partsOf i)) (opened.Refused Invalid)
 
 abbrev pub ofValue : Value → Answer
 ofValue (val.Is t) = value t
@@ -88,7 +88,7 @@ ofValue (val.Refused e) = refused (numberOf e)
 
 -- the time with the number k
 unfoldable pub timeOf : List ℕ → ℕ → Answer
-timeOf i k = pick (ltb k (length (times i))) (value (getD (times i) k 0)) none
+timeOf i k = cond (ltb k (length (times i))) (value (getD (times i) k 0)) none
 
 unfoldable pub selectOf : List ℕ → ℕ → Answer
-selectOf i k = pick (accepted i) (timeOf i k) (refused 7)
+selectOf i k = cond (accepted i) (timeOf i k) (refused 7)

@@ -2,11 +2,10 @@
 -- count, m how many times were accepted, c the rank choice, w the words lent. Assumes nothing.
 use mathlib.Core.Path.{_≡_}
 use mathlib.Core.List.{List, [], _++_}
-use mathlib.Core.Bool.{Bool, true, false, _&&_}
+use mathlib.Core.Bool.{Bool, true, false, _&&_, cond}
 use Prim.Native.Nat.{ℕ, _+_, _-_, _*_, _^_, _≤_, _<_}
 use lib.Dec.{eqb}
 use lib.ListN.{length, take, drop}
-use Rattle.errors.specs.Answer.{pick}
 use Rattle.errors.specs.declared.Refusal.the-variants.{ShortBuffer}
 use Rattle.bit_words.specs.Vector.{wordsFor, invalid}
 use Rattle.darray.specs.Index.{indexWords}
@@ -26,7 +25,7 @@ Measurable ws len = (invalid ws len ≡ false) × (len < 2 ^ 32)
 
 -- the positions of the second index: those of the zeros, or none
 abbrev pub zerosOf : Bool → List ℕ → ℕ → List ℕ
-zerosOf c ws len = pick c (positions false ws len) []
+zerosOf c ws len = cond c (positions false ws len) []
 
 -- the words of the two indexes
 abbrev pub onesWords : List ℕ → ℕ → List ℕ

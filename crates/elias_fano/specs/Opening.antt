@@ -1,10 +1,9 @@
 -- What the functions inside the crate find of an image, as facts, and what a query of an opened image demands. i is an image. Assumes nothing.
 use mathlib.Core.Path.{_≡_}
 use mathlib.Core.List.{List, []}
-use mathlib.Core.Bool.{true, false}
+use mathlib.Core.Bool.{true, false, cond}
 use Prim.Native.Nat.{ℕ, _+_, _-_, _*_, _≤_, _<_}
 use lib.ListN.{length, getD, take, drop}
-use Rattle.errors.specs.Answer.{pick}
 use Rattle.broadword.specs.Places.{SelectInByte}
 use Rattle.bit_words.specs.Vector.{wordsFor}
 use Rattle.darray.specs.Index.{indexWords}
@@ -28,7 +27,7 @@ zerosIn i = zerosAt (universe i) (declared i) (pushed i) (getD i 4 0)
 
 -- the length that the header gives
 abbrev pub endIn : List ℕ → ℕ
-endIn i = zerosIn i + pick (ranked i) (indexLen (highOf i - pushed i) (getD i 5 0)) 0
+endIn i = zerosIn i + cond (ranked i) (indexLen (highOf i - pushed i) (getD i 5 0)) 0
 
 -- a header in its limits, and the length that it gives
 pub record Headed (i : List ℕ) : Type 0 where
@@ -55,7 +54,7 @@ bitsIn i = take (wordsFor (highOf i) + wordsFor (pushed i * lowLen (universe i) 
 -- the indexes are those of the high bits
 pub record Indexes (i : List ℕ) : Type 0 where
   pub ones : take (zerosIn i - onesIn i) (drop (onesIn i) i) ≡ indexWords (positions true (highIn i) (highOf i))
-  pub zeros : drop (zerosIn i) i ≡ pick (ranked i) (indexWords (positions false (highIn i) (highOf i))) []
+  pub zeros : drop (zerosIn i) i ≡ cond (ranked i) (indexWords (positions false (highIn i) (highOf i))) []
 
 -- an accepted image with its parts, and the table of select
 pub record Open (i : List ℕ) (p : Parts) (table : List ℕ) : Type 0 where

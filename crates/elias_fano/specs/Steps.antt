@@ -1,11 +1,11 @@
 -- What each call on a builder answers and leaves: the builder and every word lent. u is the universe, n the declared count, m how many
 -- times were accepted. Document 01, "The image" and "Refusals with an example". Assumes nothing.
 use mathlib.Core.List.{List, _++_}
-use mathlib.Core.Bool.{Bool, not, _&&_}
+use mathlib.Core.Bool.{Bool, not, _&&_, cond}
 use Prim.Native.Nat.{ℕ, _+_, _-_, _*_, _/_, _%_, _^_}
 use lib.Dec.{eqb, leb, ltb}
 use lib.ListN.{length, take, drop, replicate}
-use Rattle.errors.specs.Answer.{value, done, refused, pick}
+use Rattle.errors.specs.Answer.{value, done, refused}
 use Rattle.bit_words.specs.Vector.{wordsFor, overwrite}
 use Rattle.elias_fano_words.specs.Sizes.{lowLen, highLen, startLen}
 use Rattle.elias_fano_words.specs.Image.{image}
@@ -17,9 +17,9 @@ use Rattle.elias_fano.specs.Made.{Made, made, builder, nobody}
 
 unfoldable pub newOf : ℕ → ℕ → List ℕ → Made
 newOf u n w =
-    pick (eqb n 0) (made (refused 1) nobody w)
-    (pick (ltb 16777216 n) (made (refused 2) nobody w)
-    (pick (ltb (length w) (startLen u n)) (made (refused 3) nobody w)
+    cond (eqb n 0) (made (refused 1) nobody w)
+    (cond (ltb 16777216 n) (made (refused 2) nobody w)
+    (cond (ltb (length w) (startLen u n)) (made (refused 3) nobody w)
     (made done (builder u n 0 0) (replicate (startLen u n) 0 ++ drop (startLen u n) w))))
 
 -- ---- a reading: 7, 3, 4, 5, 6
@@ -28,7 +28,7 @@ newOf u n w =
 unfoldable pub sound : Builder → Bool
 sound b =
     leb 1 (b .«num_vals») && (leb (b .«num_vals») 16777216 && (leb (b .«num_pushed») (b .«num_vals»)
-    && pick (eqb (b .«num_pushed») 0) (eqb (b .last) 0) (ltb (b .last) (b .universe))))
+    && cond (eqb (b .«num_pushed») 0) (eqb (b .last) 0) (ltb (b .last) (b .universe))))
 
 -- the words after the time t with the number m is filed: its one high bit and its low bits, and no other
 unfoldable pub filed : ℕ → ℕ → ℕ → ℕ → List ℕ → List ℕ
@@ -38,11 +38,11 @@ filed u n m t w =
 
 unfoldable pub pushOf : Builder → ℕ → List ℕ → Made
 pushOf b t w =
-    pick (not (sound b)) (made (refused 7) b w)
-    (pick (ltb (length w) (startLen (b .universe) (b .«num_vals»))) (made (refused 3) b w)
-    (pick (ltb t (b .last)) (made (refused 4) b w)
-    (pick (leb (b .universe) t) (made (refused 5) b w)
-    (pick (eqb (b .«num_pushed») (b .«num_vals»)) (made (refused 6) b w)
+    cond (not (sound b)) (made (refused 7) b w)
+    (cond (ltb (length w) (startLen (b .universe) (b .«num_vals»))) (made (refused 3) b w)
+    (cond (ltb t (b .last)) (made (refused 4) b w)
+    (cond (leb (b .universe) t) (made (refused 5) b w)
+    (cond (eqb (b .«num_pushed») (b .«num_vals»)) (made (refused 6) b w)
     (made done (builder (b .universe) (b .«num_vals») (b .«num_pushed» + 1) t) (filed (b .universe) (b .«num_vals») (b .«num_pushed») t w))))))
 
 -- ---- a finish: 7 by the builder's numbers, 3 by the start's size, 7 by the bits, 3 by the image's length
@@ -65,8 +65,8 @@ imageOf b c w = image (b .universe) (b .«num_vals») c (heldTimes b w)
 
 unfoldable pub buildOf : Builder → Bool → List ℕ → Made
 buildOf b c w =
-    pick (not (sound b)) (made (refused 7) b w)
-    (pick (ltb (length w) (startLen (b .universe) (b .«num_vals»))) (made (refused 3) b w)
-    (pick (not (intact b w)) (made (refused 7) b w)
-    (pick (ltb (length w) (length (imageOf b c w))) (made (refused 3) b w)
+    cond (not (sound b)) (made (refused 7) b w)
+    (cond (ltb (length w) (startLen (b .universe) (b .«num_vals»))) (made (refused 3) b w)
+    (cond (not (intact b w)) (made (refused 7) b w)
+    (cond (ltb (length w) (length (imageOf b c w))) (made (refused 3) b w)
     (made (value (length (imageOf b c w))) b (imageOf b c w ++ drop (length (imageOf b c w)) w)))))

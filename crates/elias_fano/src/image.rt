@@ -1,8 +1,7 @@
 // Reading an image. Every public query first decides whether the image is one that some run writes.
-ghost use mathlib.Core.Bool.{true, false};
+ghost use mathlib.Core.Bool.{true, false, cond};
 ghost use mathlib.Core.Path.{_≡_};
 ghost use Prim.Native.Nat.{_+_, _-_, _^_, _≤_, _<_};
-ghost use Rattle.errors.specs.Answer.{pick};
 ghost use Rattle.bit_words.specs.Vector.{invalid};
 ghost use Rattle.darray.specs.Index.{indexWords};
 ghost use Rattle.darray.specs.Pending.{Decides};
@@ -89,7 +88,7 @@ fn parts_of(universe: u64, num_vals: u64, num_pushed: u64, rank: bool, overflow:
 // How many words the index over the zeros has.
 fn zeros_len(p: Parts, overflow: usize) -> usize
     requires { ⌜ ((p .«high_len» < 2 ^ 32) × (p .«num_pushed» ≤ p .«high_len») × (overflow < 2 ^ 62)) ⌝ }
-    ensures { λ r. ⌜ r ≡ pick (p .rank) (indexLen (p .«high_len» - p .«num_pushed») overflow) 0 ⌝ }
+    ensures { λ r. ⌜ r ≡ cond (p .rank) (indexLen (p .«high_len» - p .«num_pushed») overflow) 0 ⌝ }
 {
     if p.rank {
         return index_len(p.high_len - p.num_pushed as usize, overflow);

@@ -2,7 +2,7 @@
 -- accepted build is accepted and shows the accepted times. Assumes nothing.
 use mathlib.Core.Path.{_≡_, refl, sym, ap, ap₂, _∙_, subst}
 use mathlib.Core.List.{List, [], _∷_, _++_, append-assoc, append-nil}
-use mathlib.Core.Bool.{Bool, true, false, not, _&&_}
+use mathlib.Core.Bool.{Bool, true, false, not, _&&_, cond}
 use Prim.Native.Nat.{ℕ, zero, suc, _+_, _-_, _*_, _≤_, _<_, zero-le}
 use native.Mathlib.Nat.{le-refl, mul-le-mul}
 use native.Mathlib.Omega.{arith}
@@ -10,7 +10,7 @@ use borrow.Author.Tests.{le-ltb, lt-ltb, eq-eqb, ne-eqb, ltb-true, ltb-false, le
 use lib.Dec.{eqb, leb, ltb}
 use lib.ListN.{length, take, drop, replicate, length-append, length-drop, replicate-append-replicate}
 use lib.Seq.{take-at, take-append-seam}
-use Rattle.errors.specs.Answer.{Answer, value, done, refused, pick}
+use Rattle.errors.specs.Answer.{Answer, value, done, refused}
 use Rattle.broadword.specs.Fields.{word}
 use Rattle.bit_words.specs.Vector.{wordsFor, numberWords}
 use Rattle.bit_words.proofs.Overwrite.{length-numberWords}
@@ -55,9 +55,9 @@ below-last [] t = sym (le-ltb t 0 (zero-le {n = t}))
 below-last (x ∷ T) t = simp (ne-eqb (suc (length T)) 0 (λ (e : suc (length T) ≡ 0). omega arith))
 
 module _ (u n : ℕ) (lent : List ℕ) where
-  pub answer-is : (T : List ℕ) (t : ℕ) → answerTo u n lent T t ≡ pick (ltb t (lastOf T)) (refused 4) (pick (leb u t) (refused 5) (pick (eqb (length T) n) (refused 6) done))
+  pub answer-is : (T : List ℕ) (t : ℕ) → answerTo u n lent T t ≡ cond (ltb t (lastOf T)) (refused 4) (cond (leb u t) (refused 5) (cond (eqb (length T) n) (refused 6) done))
   unfolding answerTo
-  answer-is T t = ap (λ (x : Bool). pick x (refused 4) (pick (leb u t) (refused 5) (pick (eqb (length T) n) (refused 6) done))) (below-last T t)
+  answer-is T t = ap (λ (x : Bool). cond x (refused 4) (cond (leb u t) (refused 5) (cond (eqb (length T) n) (refused 6) done))) (below-last T t)
 
 module _ (u n : ℕ) (lent : List ℕ) (begun : Begun u n lent) where
   abbrev k : ℕ
@@ -204,7 +204,7 @@ module _ (u n : ℕ) (lent : List ℕ) (begun : Begun u n lent) where
     image-is c = ap (image u n c) held-times
 
     -- the contract's step shows what the model shows
-    build-by : (c t : Bool) → ltb (length lent) (length (image u n c T)) ≡ t → buildOf (B T) c (W T) ≡ pick t (openBook u n lent (refused 3) T) (closedBook u n lent c T)
+    build-by : (c t : Bool) → ltb (length lent) (length (image u n c T)) ≡ t → buildOf (B T) c (W T) ≡ cond t (openBook u n lent (refused 3) T) (closedBook u n lent c T)
     build-by c true e =
         let h : length (W T) < length (imageOf (B T) c (W T)) = subst (λ (x : List ℕ). length (W T) < length x) (sym (image-is c)) (subst (λ (y : ℕ). y < length (image u n c T)) (sym (length-words T)) (ltb-true _ _ e)) in
         cases.build-3-image (B T) c (W T) (numbers-sound T f) (long T) held-intact h
@@ -221,22 +221,22 @@ module _ (u n : ℕ) (lent : List ℕ) (begun : Begun u n lent) where
   next-push T t xs f ih =
       let p = push-step T t f in
       let S = after u n lent T t in
-      let rest : Made → List Made = λ s. s ∷ pick (closes (s .answer)) [] (runFrom (s .builder) (s .words) xs) in
+      let rest : Made → List Made = λ s. s ∷ cond (closes (s .answer)) [] (runFrom (s .builder) (s .words) xs) in
       ap rest (p .shows)
-      ∙ ap (λ (x : Bool). openBook u n lent (answerTo u n lent T t) S ∷ pick x [] (runFrom (B S) (W S) xs)) (p .goes-on)
+      ∙ ap (λ (x : Bool). openBook u n lent (answerTo u n lent T t) S ∷ cond x [] (runFrom (B S) (W S) xs)) (p .goes-on)
       ∙ ap (λ (r : List Made). openBook u n lent (answerTo u n lent T t) S ∷ r) (ih S (p .fits))
 
   next-build : (T : List ℕ) (c : Bool) (xs : List Call) → Fits u n T → runFrom (B T) (W T) xs ≡ bookFrom u n lent T xs → (t : Bool) → tooLong u n lent c T ≡ t
       → runFrom (B T) (W T) (build c ∷ xs) ≡ bookFrom u n lent T (build c ∷ xs)
   unfolding runFrom stepOf bookFrom tooLong
   next-build T c xs f ih true e =
-      let rest : Made → List Made = λ s. s ∷ pick (closes (s .answer)) [] (runFrom (s .builder) (s .words) xs) in
+      let rest : Made → List Made = λ s. s ∷ cond (closes (s .answer)) [] (runFrom (s .builder) (s .words) xs) in
       ap rest (build-by T f c true e) ∙ ap (λ (r : List Made). openBook u n lent (refused 3) T ∷ r) ih
-      ∙ ap (λ (x : Bool). pick x (openBook u n lent (refused 3) T ∷ bookFrom u n lent T xs) (closedBook u n lent c T ∷ [])) (sym e)
+      ∙ ap (λ (x : Bool). cond x (openBook u n lent (refused 3) T ∷ bookFrom u n lent T xs) (closedBook u n lent c T ∷ [])) (sym e)
   next-build T c xs f ih false e =
-      let rest : Made → List Made = λ s. s ∷ pick (closes (s .answer)) [] (runFrom (s .builder) (s .words) xs) in
+      let rest : Made → List Made = λ s. s ∷ cond (closes (s .answer)) [] (runFrom (s .builder) (s .words) xs) in
       ap rest (build-by T f c false e)
-      ∙ ap (λ (x : Bool). pick x (openBook u n lent (refused 3) T ∷ bookFrom u n lent T xs) (closedBook u n lent c T ∷ [])) (sym e)
+      ∙ ap (λ (x : Bool). cond x (openBook u n lent (refused 3) T ∷ bookFrom u n lent T xs) (closedBook u n lent c T ∷ [])) (sym e)
 
   every-from : (T : List ℕ) (xs : List Call) → Fits u n T → runFrom (B T) (W T) xs ≡ bookFrom u n lent T xs
   unfolding runFrom bookFrom
@@ -264,8 +264,8 @@ module _ (u n : ℕ) (lent : List ℕ) (begun : Begun u n lent) where
 
   ends-build : (T : List ℕ) (c : Bool) (xs : List Call) (k : ℕ) → Fits u n T
       → ((s : Made) → closes (s .answer) ≡ false → endFrom s (bookFrom u n lent T xs) .answer ≡ value k → Ends (timesFrom u n lent T xs) (endFrom s (bookFrom u n lent T xs)))
-      → (t : Bool) (s : Made) → endFrom s (pick t (openBook u n lent (refused 3) T ∷ bookFrom u n lent T xs) (closedBook u n lent c T ∷ [])) .answer ≡ value k
-      → Ends (pick t (timesFrom u n lent T xs) T) (endFrom s (pick t (openBook u n lent (refused 3) T ∷ bookFrom u n lent T xs) (closedBook u n lent c T ∷ [])))
+      → (t : Bool) (s : Made) → endFrom s (cond t (openBook u n lent (refused 3) T ∷ bookFrom u n lent T xs) (closedBook u n lent c T ∷ [])) .answer ≡ value k
+      → Ends (cond t (timesFrom u n lent T xs) T) (endFrom s (cond t (openBook u n lent (refused 3) T ∷ bookFrom u n lent T xs) (closedBook u n lent c T ∷ [])))
   ends-build T c xs k f ih true s e = ih (openBook u n lent (refused 3) T) refl e
   ends-build T c xs k f ih false s e = record { choice = c; fits = f; is = refl }
 

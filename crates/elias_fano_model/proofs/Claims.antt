@@ -1,7 +1,7 @@
 -- Demand 3, whole: its first two sentences, and the theorem that has all of it. Assumes nothing.
 use mathlib.Core.Path.{_≡_, refl, sym, ap, ap₂, _∙_, subst}
 use mathlib.Core.List.{List, [], _∷_, _++_, map, append-nil}
-use mathlib.Core.Bool.{Bool, true, false}
+use mathlib.Core.Bool.{Bool, true, false, cond}
 use mathlib.Core.Logic.{_↔_}
 use Prim.Native.Nat.{ℕ, _+_, _≤_, _<_}
 use native.Mathlib.Omega.{arith}
@@ -9,7 +9,7 @@ use borrow.Author.Tests.{le-ltb, lt-leb, ne-eqb}
 use lib.Dec.{ltb}
 use lib.ListN.{length, getD, take, drop, replicate, length-append, length-replicate}
 use lib.Seq.{take-append-seam, append-snoc}
-use Rattle.errors.specs.Answer.{Answer, value, none, done, refused, pick}
+use Rattle.errors.specs.Answer.{Answer, value, none, done, refused}
 use Rattle.elias_fano_words.specs.Sizes.{startLen}
 use Rattle.elias_fano_words.specs.Image.{image}
 use Rattle.elias_fano_words.specs.Times.{rising, lastOf}
@@ -31,11 +31,11 @@ value-not k e = let z : _≡_ {A = ℕ} 0 1 = cc in omega arith
 none-not : none ≡ refused 7 → ⊥
 none-not e = let z : _≡_ {A = ℕ} 0 1 = cc in omega arith
 
-time-not : (b : Bool) (k : ℕ) → pick b (value k) none ≡ refused 7 → ⊥
+time-not : (b : Bool) (k : ℕ) → cond b (value k) none ≡ refused 7 → ⊥
 time-not true k e = value-not k e
 time-not false k e = none-not e
 
-asked-by : (i : List ℕ) (k : ℕ) (b : Bool) → accepted i ≡ b → (b ≡ true) ↔ (pick b (timeOf i k) (refused 7) ≡ refused 7 → ⊥)
+asked-by : (i : List ℕ) (k : ℕ) (b : Bool) → accepted i ≡ b → (b ≡ true) ↔ (cond b (timeOf i k) (refused 7) ≡ refused 7 → ⊥)
 unfolding timeOf
 asked-by i k true e = ((λ _. time-not (ltb k (length (times i))) (getD (times i) k 0)), (λ _. refl))
 asked-by i k false e = ((λ (h : false ≡ true). let z : _≡_ {A = ℕ} 0 1 = cc in absurd (omega arith)), (λ h. absurd (h refl)))
@@ -80,7 +80,7 @@ module _ (u n : ℕ) (lent : List ℕ) (c : Bool) where
       let e : S ++ [] ≡ S = append-nil S in
       let r′ : length (image u n c S) ≤ length lent = subst (λ (x : List ℕ). length (image u n c x) ≤ length lent) e r in
       let f : bookFrom u n lent S (build c ∷ []) ≡ closedBook u n lent c (S ++ []) ∷ [] =
-      ap (λ (b : Bool). pick b (openBook u n lent (refused 3) S ∷ []) (closedBook u n lent c S ∷ [])) (le-ltb (length lent) (length (image u n c S)) r′)
+      ap (λ (b : Bool). cond b (openBook u n lent (refused 3) S ∷ []) (closedBook u n lent c S ∷ [])) (le-ltb (length lent) (length (image u n c S)) r′)
       ∙ ap (λ (x : List ℕ). closedBook u n lent c x ∷ []) (sym e) in
       record { shows = ap answers f; ends = ap (endFrom s) f }
   forth S (t ∷ T) s p q r =

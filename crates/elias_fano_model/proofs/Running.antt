@@ -1,7 +1,7 @@
 -- A run as its loop makes it, one call after the other, is what the model says: by the theorem on whole lists. Assumes nothing.
 use mathlib.Core.Path.{_≡_, refl, sym, ap, ap₂, _∙_}
 use mathlib.Core.List.{List, [], _∷_}
-use mathlib.Core.Bool.{Bool, true, false}
+use mathlib.Core.Bool.{Bool, true, false, cond}
 use Prim.Native.Nat.{ℕ, suc, _+_, _-_, _*_, _/_, _^_, _≤_, _<_}
 use native.Mathlib.Nat.{add-zero}
 use native.Mathlib.Numerals.{add-one, add-two}
@@ -10,7 +10,7 @@ use borrow.Author.Tests.{le-ltb, lt-ltb, le-leb, lt-leb, eq-eqb, ne-eqb, ltb-tru
 use lib.Dec.{eqb, ltb}
 use lib.ListN.{length, getD, drop, set, length-drop, length-set}
 use lib.Seq.{sets, drop-cons}
-use Rattle.errors.specs.Answer.{Answer, done, refused, pick}
+use Rattle.errors.specs.Answer.{Answer, done, refused}
 use Rattle.errors.specs.Refusal.{numberOf}
 use Rattle.errors.specs.declared.Refusal.{Refusal}
 use Rattle.elias_fano_words.specs.Sizes.{startLen}
@@ -60,7 +60,7 @@ next-call l i h =
 -- what is left of the run once a call has left s
 abbrev then-on : ℕ → List ℕ → List Call → Made → Left
 then-on k answers xs s =
-    pick (closes (s .answer)) (left (ended (s .builder) (k + 1)) (s .words) (filedAt answers k (s .answer))) (goOn (s .builder) (s .words) (k + 1) (filedAt answers k (s .answer)) xs)
+    cond (closes (s .answer)) (left (ended (s .builder) (k + 1)) (s .words) (filedAt answers k (s .answer))) (goOn (s .builder) (s .words) (k + 1) (filedAt answers k (s .answer)) xs)
 
 module _ (b c : Builder) (w v : List ℕ) (k : ℕ) (a : Answer) (answers l : List ℕ) (i : ℕ) (more : 2 ≤ length l - i) (e : made a c v ≡ stepOf b w (callOf (getD l i 0) (getD l (i + 1) 0))) where
   turn : goOn b w k answers (decode (drop i l)) ≡ then-on k answers (decode (drop (i + 2) l)) (made a c v)
@@ -68,10 +68,10 @@ module _ (b c : Builder) (w v : List ℕ) (k : ℕ) (a : Answer) (answers l : Li
   turn = ap (goOn b w k answers) (next-call l i more) ∙ ap (then-on k answers (decode (drop (i + 2) l))) (sym e)
 
   pub turn-last : closes a ≡ true → left (ended c (k + 1)) v (filedAt answers k a) ≡ goOn b w k answers (decode (drop i l))
-  turn-last h = sym (turn ∙ ap (λ (t : Bool). pick t (left (ended c (k + 1)) v (filedAt answers k a)) (goOn c v (k + 1) (filedAt answers k a) (decode (drop (i + 2) l)))) h)
+  turn-last h = sym (turn ∙ ap (λ (t : Bool). cond t (left (ended c (k + 1)) v (filedAt answers k a)) (goOn c v (k + 1) (filedAt answers k a) (decode (drop (i + 2) l)))) h)
 
   pub turn-on : closes a ≡ false → goOn c v (k + 1) (filedAt answers k a) (decode (drop (i + 2) l)) ≡ goOn b w k answers (decode (drop i l))
-  turn-on h = sym (turn ∙ ap (λ (t : Bool). pick t (left (ended c (k + 1)) v (filedAt answers k a)) (goOn c v (k + 1) (filedAt answers k a) (decode (drop (i + 2) l)))) h)
+  turn-on h = sym (turn ∙ ap (λ (t : Bool). cond t (left (ended c (k + 1)) v (filedAt answers k a)) (goOn c v (k + 1) (filedAt answers k a) (decode (drop (i + 2) l)))) h)
 
 pub turn-none : (b : Builder) (w : List ℕ) (k : ℕ) (answers l : List ℕ) (i : ℕ) → length l - i < 2 → left (ended b k) w answers ≡ goOn b w k answers (decode (drop i l))
 unfolding goOn
@@ -101,8 +101,8 @@ no-more m k answers = ap (λ (n : ℕ). left (ended (m .builder) n) (m .words) a
 trace-by : (m s : Made) (k : ℕ) (answers : List ℕ) (xs : List Call)
     → goOn (s .builder) (s .words) (k + 1) (filedAt answers k (s .answer)) xs ≡ left-from s (k + 1) (filedAt answers k (s .answer)) (runFrom (s .builder) (s .words) xs)
     → (t : Bool)
-    → pick t (left (ended (s .builder) (k + 1)) (s .words) (filedAt answers k (s .answer))) (goOn (s .builder) (s .words) (k + 1) (filedAt answers k (s .answer)) xs)
-    ≡ left-from m k answers (s ∷ pick t [] (runFrom (s .builder) (s .words) xs))
+    → cond t (left (ended (s .builder) (k + 1)) (s .words) (filedAt answers k (s .answer))) (goOn (s .builder) (s .words) (k + 1) (filedAt answers k (s .answer)) xs)
+    ≡ left-from m k answers (s ∷ cond t [] (runFrom (s .builder) (s .words) xs))
 trace-by m s k answers xs ih true = no-more s (k + 1) (filedAt answers k (s .answer)) ∙ first-step m s k answers []
 trace-by m s k answers xs ih false = ih ∙ first-step m s k answers (runFrom (s .builder) (s .words) xs)
 

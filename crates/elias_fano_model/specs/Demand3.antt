@@ -3,10 +3,10 @@
 use mathlib.Core.Path.{_≡_}
 use mathlib.Core.List.{List, [], _∷_, _++_, map}
 use mathlib.Core.Logic.{_↔_}
-use mathlib.Core.Bool.{Bool, true, false}
+use mathlib.Core.Bool.{Bool, true, false, cond}
 use Prim.Native.Nat.{ℕ, zero, suc, _^_, _≤_, _<_}
 use lib.ListN.{length, getD, take}
-use Rattle.errors.specs.Answer.{Answer, value, none, done, refused, pick}
+use Rattle.errors.specs.Answer.{Answer, value, none, done, refused}
 use Rattle.elias_fano_words.specs.Sizes.{startLen}
 use Rattle.elias_fano.specs.declared.builder.Builder.{Builder}
 use Rattle.elias_fano.specs.Accept.{universe, declared, ranked, accepted, selectOf}
@@ -30,7 +30,7 @@ closes (refused k) = false
 unfoldable pub runFrom : Builder → List ℕ → List Call → List Made
 runFrom b w [] = []
 runFrom b w (x ∷ xs) =
-    stepOf b w x ∷ pick (closes (stepOf b w x .answer)) [] (runFrom (stepOf b w x .builder) (stepOf b w x .words) xs)
+    stepOf b w x ∷ cond (closes (stepOf b w x .answer)) [] (runFrom (stepOf b w x .builder) (stepOf b w x .words) xs)
 
 -- after the start and after each call, up to the first accepted build
 unfoldable pub run : ℕ → ℕ → List ℕ → List Call → List Made

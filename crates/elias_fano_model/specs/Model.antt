@@ -1,11 +1,11 @@
 -- The book of demand 3: document 01, "The book of demand 3", sentence by sentence. It is opened with u, n and the words lent, is fed only
 -- the arguments of the calls, and keeps a list T of accepted times. It names no step of a contract. Assumes nothing.
 use mathlib.Core.List.{List, [], _∷_, _++_}
-use mathlib.Core.Bool.{Bool, not, _&&_}
+use mathlib.Core.Bool.{Bool, not, _&&_, cond}
 use Prim.Native.Nat.{ℕ, _*_}
 use lib.Dec.{eqb, leb, ltb}
 use lib.ListN.{length, drop, replicate}
-use Rattle.errors.specs.Answer.{Answer, value, none, done, refused, pick}
+use Rattle.errors.specs.Answer.{Answer, value, none, done, refused}
 use Rattle.bit_words.specs.Vector.{wordsFor}
 use Rattle.elias_fano_words.specs.Sizes.{lowLen, startLen}
 use Rattle.elias_fano_words.specs.Image.{image}
@@ -29,9 +29,9 @@ module _ (u n : ℕ) (lent : List ℕ) where
   -- "4 if T is not empty and t is below its last; else 5 if t is u or more; else 6 if T has n times"
   unfoldable pub answerTo : List ℕ → ℕ → Answer
   answerTo T t =
-      pick (not (eqb (length T) 0) && ltb t (lastOf T)) (refused 4)
-      (pick (leb u t) (refused 5)
-      (pick (eqb (length T) n) (refused 6)
+      cond (not (eqb (length T) 0) && ltb t (lastOf T)) (refused 4)
+      (cond (leb u t) (refused 5)
+      (cond (eqb (length T) n) (refused 6)
       done))
 
   -- "else t joins the end of T. Refused, T stays"
@@ -62,7 +62,7 @@ module _ (u n : ℕ) (lent : List ℕ) where
   unfoldable pub bookFrom : List ℕ → List Call → List Made
   bookFrom T [] = []
   bookFrom T (push t ∷ xs) = openBook (answerTo T t) (after T t) ∷ bookFrom (after T t) xs
-  bookFrom T (build c ∷ xs) = pick (tooLong c T) (openBook (refused 3) T ∷ bookFrom T xs) (closedBook c T ∷ [])
+  bookFrom T (build c ∷ xs) = cond (tooLong c T) (openBook (refused 3) T ∷ bookFrom T xs) (closedBook c T ∷ [])
 
   -- after the start and after each call
   unfoldable pub book : List Call → List Made
@@ -72,4 +72,4 @@ module _ (u n : ℕ) (lent : List ℕ) where
   unfoldable pub timesFrom : List ℕ → List Call → List ℕ
   timesFrom T [] = T
   timesFrom T (push t ∷ xs) = timesFrom (after T t) xs
-  timesFrom T (build c ∷ xs) = pick (tooLong c T) (timesFrom T xs) T
+  timesFrom T (build c ∷ xs) = cond (tooLong c T) (timesFrom T xs) T

@@ -1,11 +1,12 @@
 -- A list of calls as words, and what a run of it leaves, by the model. Two words are a call: 0 and a time for a push, any other and 1 or 0 for a build with
 -- or without the rank index; a last word alone is none. Two words are an answer. Assumes nothing.
 use mathlib.Core.List.{List, [], _∷_}
+use mathlib.Core.Bool.{cond}
 use Prim.Native.Nat.{ℕ, _/_}
 use lib.Dec.{eqb, leb, ltb}
 use lib.ListN.{length}
 use lib.Seq.{sets}
-use Rattle.errors.specs.Answer.{Answer, value, none, done, refused, pick}
+use Rattle.errors.specs.Answer.{Answer, value, none, done, refused}
 use Rattle.errors.specs.Refusal.{numberOf}
 use Rattle.elias_fano_words.specs.Sizes.{startLen}
 use Rattle.elias_fano.specs.declared.builder.Builder.{Builder}
@@ -18,7 +19,7 @@ use Rattle.elias_fano_model.specs.declared.Reply.{Reply}
 use Rattle.elias_fano_model.specs.declared.Reply.the-variants as reply
 
 unfoldable pub callOf : ℕ → ℕ → Call
-callOf k a = pick (eqb k 0) (push a) (build (eqb a 1))
+callOf k a = cond (eqb k 0) (push a) (build (eqb a 1))
 
 unfoldable pub decode : List ℕ → List Call
 decode [] = []
@@ -74,8 +75,8 @@ leftBy answers (s ∷ ss) = left (ended (endFrom s ss .builder) (length (s ∷ s
 -- 3 where the answers do not fit, then what the start draws; else all by the model
 unfoldable pub runOf : ℕ → ℕ → List ℕ → List ℕ → List ℕ → Left
 runOf u n calls lent answers =
-    pick (leb (length answers / 2) (length calls / 2)) (left (unbegun 3) lent answers)
-    (pick (eqb n 0) (left (unbegun 1) lent answers)
-    (pick (ltb 16777216 n) (left (unbegun 2) lent answers)
-    (pick (ltb (length lent) (startLen u n)) (left (unbegun 3) lent answers)
+    cond (leb (length answers / 2) (length calls / 2)) (left (unbegun 3) lent answers)
+    (cond (eqb n 0) (left (unbegun 1) lent answers)
+    (cond (ltb 16777216 n) (left (unbegun 2) lent answers)
+    (cond (ltb (length lent) (startLen u n)) (left (unbegun 3) lent answers)
     (leftBy answers (book u n lent (decode calls))))))

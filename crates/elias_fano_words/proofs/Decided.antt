@@ -1,7 +1,7 @@
 -- What the checks of high and low words decide: whether they hold nothing but times in order. Assumes nothing.
 use mathlib.Core.Path.{_≡_, refl, sym, ap, ap₂, _∙_, subst, subst⁻¹}
 use mathlib.Core.List.{List, _++_}
-use mathlib.Core.Bool.{Bool, true, false}
+use mathlib.Core.Bool.{Bool, true, false, cond}
 use Prim.Native.Nat.{ℕ, suc, _+_, _-_, _*_, _^_, _≤_, _<_}
 use native.Mathlib.Nat.{le-of-eq, le-trans, lt-of-not-le, lt-of-le-of-lt, not-le-of-lt, mul-le-mul, pos-of-ne-zero, add-zero}
 use native.Mathlib.Decide.{decLe}
@@ -12,7 +12,6 @@ use lib.ListN.{length, take, drop, length-drop, take-append-drop}
 use lib.Seq.{length-take-le, take-all}
 use mir.Syntax.{w64}
 use mir.Val.{Fits}
-use Rattle.errors.specs.Answer.{pick}
 use Rattle.broadword.specs.Bits.{count}
 use Rattle.broadword.specs.Places.{select, orElse}
 use Rattle.broadword.specs.declared.Found.{Found}
@@ -36,7 +35,7 @@ use Rattle.elias_fano_words.proofs.Rising.{lastOf-table}
 
 -- what `check` answers
 abbrev answer : ℕ → ℕ → ℕ → List ℕ → Checked
-answer u n m ws = pick (holds u n m ws) (checked.Last (lastOf (timesIn u n m ws))) checked.Wrong
+answer u n m ws = cond (holds u n m ws) (checked.Last (lastOf (timesIn u n m ws))) checked.Wrong
 
 -- the high words, s of them, and the low words after them, as the program parts them
 abbrev front : ℕ → List ℕ → List ℕ
@@ -116,7 +115,7 @@ module _ {u n m l len s : ℕ} {ws : List ℕ} (d : Given u n m l len s ws) wher
   wrong : (Ordered u n m high low → ⊥) → checked.Wrong ≡ answer u n m ws
   wrong z = by (holds u n m ws) refl
     where
-      by : (b : Bool) → holds u n m ws ≡ b → checked.Wrong ≡ pick b (checked.Last (lastOf (timesIn u n m ws))) checked.Wrong
+      by : (b : Bool) → holds u n m ws ≡ b → checked.Wrong ≡ cond b (checked.Last (lastOf (timesIn u n m ws))) checked.Wrong
       by true e = absurd (z (held.of-holds u n m high low size (d .ok .upto) room (ap (holds u n m) (parted s ws) ∙ e)))
       by false e = refl
 
@@ -124,7 +123,7 @@ module _ {u n m l len s : ℕ} {ws : List ℕ} (d : Given u n m l len s ws) wher
   right o t e =
       let h : holds u n m ws ≡ true = ap (holds u n m) (sym (parted s ws)) ∙ held.holds-of u n m high low size (d .ok .upto) room fit-parts o in
       let T : timesIn u n m ws ≡ table (timeIn u n high low) m = ap (timesIn u n m) (sym (parted s ws)) ∙ held.times-are u n m high low size in
-      ap checked.Last (e ∙ ap lastOf (sym T)) ∙ ap (λ b. pick b (checked.Last (lastOf (timesIn u n m ws))) checked.Wrong) (sym h)
+      ap checked.Last (e ∙ ap lastOf (sym T)) ∙ ap (λ b. cond b (checked.Last (lastOf (timesIn u n m ws))) checked.Wrong) (sym h)
 
   pub not-clear : (Clear high len → ⊥) → checked.Wrong ≡ answer u n m ws
   not-clear z = wrong (λ o. z (subst⁻¹ (Clear high) (d .ok .high) (o .high-clear)))
@@ -207,7 +206,7 @@ module _ {u n m l len s : ℕ} {ws : List ℕ} (d : Given u n m l len s ws) wher
       pub by-last : (m ≡ 0 → ⊥) → (c : Checked) → ((p : ℕ) → LastOne high p → c ≡ below u (timeAt l low (m - 1) p)) → c ≡ answer u n m ws
       by-last some c h = h (place some) (last-one some) ∙ by (ltb (timeAt l low (m - 1) (place some)) u) refl
         where
-          by : (b : Bool) → ltb (timeAt l low (m - 1) (place some)) u ≡ b → pick b (checked.Last (timeAt l low (m - 1) (place some))) checked.Wrong ≡ answer u n m ws
+          by : (b : Bool) → ltb (timeAt l low (m - 1) (place some)) u ≡ b → cond b (checked.Last (timeAt l low (m - 1) (place some))) checked.Wrong ≡ answer u n m ws
           by true e =
               let t = time-is some in
               right (ordered (λ _. subst⁻¹ (λ (x : ℕ). x < u) t (ltb-true (timeAt l low (m - 1) (place some)) u e))) (timeAt l low (m - 1) (place some))

@@ -1,6 +1,7 @@
 -- The last one of the high words, and the time that it stands for. Assumes nothing.
 use mathlib.Core.Path.{_≡_, sym, ap, ap₂, _∙_, subst, subst⁻¹}
 use mathlib.Core.List.{List}
+use mathlib.Core.Bool.{cond}
 use Prim.Native.Nat.{ℕ, suc, _+_, _-_, _*_, _/_, _%_, _^_, _≤_, _<_}
 use native.Mathlib.Nat.{lt-of-not-le, lt-of-le-of-lt, mul-le-mul-right, mod-lt, mod-eq-of-lt}
 use native.Mathlib.Decide.{decLt}
@@ -10,7 +11,6 @@ use lib.Arith.{digits-lt}
 use lib.Dec.{ltb}
 use lib.ListN.{length, getD}
 use lib.Pow.{pow-pos, pow-add, shr-lt, split}
-use Rattle.errors.specs.Answer.{pick}
 use Rattle.broadword.specs.Bits.{bit, count}
 use Rattle.broadword.specs.Places.{last}
 use Rattle.broadword.specs.declared.Found.the-variants.{At, Nothing}
@@ -80,7 +80,7 @@ held-last low l m h = subst (Held l low) (let e : m ≡ m - 1 + 1 = omega arith 
 
 -- the time t, if it is below u
 abbrev pub below : ℕ → ℕ → Checked
-below u t = pick (ltb t u) (checked.Last t) checked.Wrong
+below u t = cond (ltb t u) (checked.Last t) checked.Wrong
 
 module _ (high low : List ℕ) (u l k r : ℕ) (hu : u < 2 ^ 64) (narrow : l < 64) (is : LastOne high r) where
   -- for the last one, wherever it was found
@@ -95,7 +95,7 @@ module _ (high low : List ℕ) (u l k r : ℕ) (hu : u < 2 ^ 64) (narrow : l < 6
       let m : u % P < P = mod-lt u (pow-pos l) in
       let g : (u / P + 1) * P ≤ (r - k) * P = mul-le-mul-right P (let e : u / P + 1 ≤ r - k = omega arith in e) in
       let f : u ≤ timeAt l low k r = omega arith in
-      any checked.Wrong (ap (λ b. pick b (checked.Last (timeAt l low k r)) checked.Wrong) (sym (le-ltb (timeAt l low k r) u f)))
+      any checked.Wrong (ap (λ b. cond b (checked.Last (timeAt l low k r)) checked.Wrong) (sym (le-ltb (timeAt l low k r) u f)))
 
   -- or not: then they stay in the word when shifted
   module _ (h : r - k ≤ u / 2 ^ l) where
@@ -120,7 +120,7 @@ module _ (high low : List ℕ) (u l k r : ℕ) (hu : u < 2 ^ 64) (narrow : l < 6
       pub time-below : ((r - k) * 2 ^ l) % 2 ^ 64 + b < u → (p : ℕ) → LastOne high p → checked.Last (((r - k) * 2 ^ l) % 2 ^ 64 + b) ≡ below u (timeAt l low k p)
       time-below g =
           any (checked.Last (((r - k) * 2 ^ l) % 2 ^ 64 + b))
-          (ap checked.Last time-is ∙ ap (λ b. pick b (checked.Last (timeAt l low k r)) checked.Wrong) (sym (lt-ltb (timeAt l low k r) u (subst (λ (n : ℕ). n < u) time-is g))))
+          (ap checked.Last time-is ∙ ap (λ b. cond b (checked.Last (timeAt l low k r)) checked.Wrong) (sym (lt-ltb (timeAt l low k r) u (subst (λ (n : ℕ). n < u) time-is g))))
 
       pub time-not : u ≤ ((r - k) * 2 ^ l) % 2 ^ 64 + b → (p : ℕ) → LastOne high p → checked.Wrong ≡ below u (timeAt l low k p)
-      time-not g = any checked.Wrong (ap (λ b. pick b (checked.Last (timeAt l low k r)) checked.Wrong) (sym (le-ltb (timeAt l low k r) u (subst (λ (n : ℕ). u ≤ n) time-is g))))
+      time-not g = any checked.Wrong (ap (λ b. cond b (checked.Last (timeAt l low k r)) checked.Wrong) (sym (le-ltb (timeAt l low k r) u (subst (λ (n : ℕ). u ≤ n) time-is g))))

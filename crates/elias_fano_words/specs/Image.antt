@@ -1,9 +1,8 @@
 -- The image of a record, document 01, "The image". u is the universe, n the declared count, c the rank choice, T the list of times. Assumes nothing.
 use mathlib.Core.List.{List, [], _∷_, _++_}
-use mathlib.Core.Bool.{Bool, true, false}
+use mathlib.Core.Bool.{Bool, true, false, cond}
 use Prim.Native.Nat.{ℕ, suc, _+_, _*_, _/_, _%_, _^_}
 use lib.ListN.{length, getD}
-use Rattle.errors.specs.Answer.{pick}
 use Rattle.broadword.specs.Fields.{flag, word}
 use Rattle.bit_words.specs.Vector.{wordsFor, numberWords}
 use Rattle.darray.specs.Index.{overflow, blocks, indexWords}
@@ -36,5 +35,5 @@ module _ (u n : ℕ) where
 
   unfoldable pub image : Bool → List ℕ → List ℕ
   image c T =
-      (u ∷ n ∷ length T ∷ flag c ∷ spilled (highPositions true T) ∷ pick c (spilled (highPositions false T)) 0 ∷ [])
-      ++ (highWords T ++ (lowWords T ++ (indexWords (highPositions true T) ++ pick c (indexWords (highPositions false T)) [])))
+      (u ∷ n ∷ length T ∷ flag c ∷ spilled (highPositions true T) ∷ cond c (spilled (highPositions false T)) 0 ∷ [])
+      ++ (highWords T ++ (lowWords T ++ (indexWords (highPositions true T) ++ cond c (indexWords (highPositions false T)) [])))

@@ -3,10 +3,10 @@
 // Ones that are neighbours in the high words stand for times with the same high bits, and only of these the low bits are compared. So it takes
 // the time of counting the ones of the high words, and of a count of ones and one or two readings of low bits for each pair of neighbours.
 ghost use mathlib.Core.Path.{_≡_};
+ghost use mathlib.Core.Bool.{cond};
 ghost use Prim.Native.Nat.{ℕ, suc, _+_, _-_, _*_, _%_, _^_, _≤_, _<_};
 ghost use lib.Dec.{leb, ltb};
 ghost use lib.ListN.{length, getD};
-ghost use Rattle.errors.specs.Answer.{pick};
 ghost use Rattle.broadword.specs.Bits.{count, ones};
 ghost use Rattle.broadword.specs.Fields.{word};
 ghost use Rattle.bit_words.specs.Vector.{bitAt};
@@ -142,7 +142,7 @@ fn last_one(words: &[u64]) -> usize
 // word when shifted.
 fn last_time(high: &[u64], low: &[u64], universe: u64, l: usize, m: usize) -> Checked
     requires { ⌜ Filled l (now high) (now low) m ⌝ }
-    ensures { λ r. ⌜ ((p : ℕ) → LastOne (now (high .entry)) p → r ≡ pick (ltb (timeAt l (now (low .entry)) (m - 1) p) universe) (Checked.Last (timeAt l (now (low .entry)) (m - 1) p)) Checked.Wrong) ⌝ }
+    ensures { λ r. ⌜ ((p : ℕ) → LastOne (now (high .entry)) p → r ≡ cond (ltb (timeAt l (now (low .entry)) (m - 1) p) universe) (Checked.Last (timeAt l (now (low .entry)) (m - 1) p)) Checked.Wrong) ⌝ }
 {
     let k = m - 1;
     let upper = (last_one(high) - k) as u64;
@@ -168,7 +168,7 @@ pub fn check(
     high_len: usize,
 ) -> Checked
     requires { ⌜ Checkable universe «num_vals» «num_pushed» «low_len» «high_len» (now words) ⌝ }
-    ensures { λ r. ⌜ r ≡ pick (holds universe «num_vals» «num_pushed» (now (words .entry))) (Checked.Last (lastOf (timesIn universe «num_vals» «num_pushed» (now (words .entry))))) Checked.Wrong ⌝ }
+    ensures { λ r. ⌜ r ≡ cond (holds universe «num_vals» «num_pushed» (now (words .entry))) (Checked.Last (lastOf (timesIn universe «num_vals» «num_pushed» (now (words .entry))))) Checked.Wrong ⌝ }
 {
     let m = num_pushed as usize;
     let split = words_for(high_len);

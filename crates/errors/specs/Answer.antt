@@ -1,7 +1,6 @@
 -- What a call answers, in document 01's terms: a value, a plain none, that it is done, or a refusal by its number.
 -- Every enum that a public function returns has a definition that gives its cases so.
 use mathlib.Core.List.{List}
-use mathlib.Core.Bool.{Bool, true, false}
 use Prim.Native.Nat.{ℕ}
 
 pub data Answer : Type 0 where
@@ -17,8 +16,3 @@ pub record Outcome : Type 0 where
 
 abbrev pub leaves : Answer → List ℕ → Outcome
 leaves a w = record { answer = a; words = w }
-
--- the first where the test holds, else the second
-abbrev pub pick : {A : Type 0} → Bool → A → A → A
-pick true a b = a
-pick false a b = b

@@ -1,11 +1,11 @@
 -- Each answer of `elias_fano` as the struct that tells it. Assumes nothing.
 use mathlib.Core.Path.{_≡_, refl, sym, ap, _∙_, subst}
 use mathlib.Core.List.{List}
-use mathlib.Core.Bool.{Bool, true, false}
+use mathlib.Core.Bool.{Bool, true, false, cond}
 use Prim.Native.Nat.{ℕ}
 use native.Mathlib.Omega.{arith}
 use lib.Dec.{eqb}
-use Rattle.errors.specs.Answer.{Answer, value, none, done, refused, pick}
+use Rattle.errors.specs.Answer.{Answer, value, none, done, refused}
 use Rattle.errors.specs.Refusal.{numberOf}
 use Rattle.errors.specs.declared.Refusal.{Refusal}
 use Rattle.errors.specs.declared.Refusal.the-variants.{NoValues, TooMany, ShortBuffer, Decreasing, OutOfUniverse, Full, Invalid, NoRankIndex, RangeOutOfBounds, NoBits, NoOnes, SumTooLarge, InvalidBits, WideBits, NoRoom, OutOfBounds}
@@ -43,7 +43,7 @@ number-some NoRoom = refl
 number-some OutOfBounds = refl
 
 refusal-is : (k : ℕ) (e : Refusal) → k ≡ numberOf e → ofRefusal k ≡ refused (numberOf e)
-refusal-is k e h = ap ofRefusal h ∙ ap (λ (b : Bool). pick b done (refused (numberOf e))) (number-some e)
+refusal-is k e h = ap ofRefusal h ∙ ap (λ (b : Bool). cond b done (refused (numberOf e))) (number-some e)
 
 -- ---- a start or a reading
 
@@ -68,11 +68,11 @@ module _ (b c : Builder) (ec : c ≡ b) (r : Built) (w : List ℕ) (m : Builder 
 -- ---- opening
 
 module _ (i : List ℕ) (r : Opened) (er : r ≡ openOf i) where
-  image-by : (b : Bool) (p q : Parts) → opened.Image p ≡ pick b (opened.Image q) (opened.Refused Invalid) → _≡_ {A = ℕ} 0 (pick b 0 7)
+  image-by : (b : Bool) (p q : Parts) → opened.Image p ≡ cond b (opened.Image q) (opened.Refused Invalid) → _≡_ {A = ℕ} 0 (cond b 0 7)
   image-by true p q e = refl
   image-by false p q e = let z : _≡_ {A = ℕ} 0 1 = cc in absurd (omega arith)
 
-  refused-by : (b : Bool) (k : Refusal) (q : Parts) → opened.Refused k ≡ pick b (opened.Image q) (opened.Refused Invalid) → numberOf k ≡ pick b 0 7
+  refused-by : (b : Bool) (k : Refusal) (q : Parts) → opened.Refused k ≡ cond b (opened.Image q) (opened.Refused Invalid) → numberOf k ≡ cond b 0 7
   refused-by true k q e = let z : _≡_ {A = ℕ} 0 1 = cc in absurd (omega arith)
   refused-by false k q e = let d : k ≡ Invalid = cc in ap numberOf d
 

@@ -1,9 +1,10 @@
 -- The structs of the library in document 01's terms. Assumes nothing.
 use mathlib.Core.Path.{_≡_}
 use mathlib.Core.List.{List}
+use mathlib.Core.Bool.{cond}
 use Prim.Native.Nat.{ℕ}
 use lib.Dec.{eqb}
-use Rattle.errors.specs.Answer.{Answer, value, none, done, refused, pick}
+use Rattle.errors.specs.Answer.{Answer, value, none, done, refused}
 use Rattle.elias_fano.specs.declared.builder.Builder.{Builder}
 use Rattle.elias_fano.specs.declared.builder.Pushed.{Pushed}
 use Rattle.elias_fano.specs.Accept.{accepted}
@@ -17,7 +18,7 @@ ofBuilder b = builder (b .universe) (b .«num_vals») (b .«num_pushed») (b .la
 
 -- 0 is no refusal
 abbrev pub ofRefusal : ℕ → Answer
-ofRefusal k = pick (eqb k 0) done (refused k)
+ofRefusal k = cond (eqb k 0) done (refused k)
 
 -- the kinds 0, 1 and 2 with a value, 0, or a refusal's number; no call that answers so is only done
 abbrev pub efAnswer : Answer → EfAnswer
@@ -28,7 +29,7 @@ efAnswer done = record { kind = 3; value = 0 }
 
 -- what an opening says
 unfoldable pub openedOf : List ℕ → ℕ
-openedOf i = pick (accepted i) 0 7
+openedOf i = cond (accepted i) 0 7
 
 -- a start or a reading, told
 abbrev pub Told : EfBuilder → Pushed → EfPushed → Type 0

@@ -3,7 +3,7 @@
 -- Assumes nothing.
 use borrow.Author.Tests.{lt-ltb, le-ltb, le-leb, lt-leb}
 use mathlib.Core.Path.{_≡_, refl, sym, ap, ap₂, _∙_, subst, subst⁻¹}
-use mathlib.Core.Bool.{Bool, true, false}
+use mathlib.Core.Bool.{Bool, true, false, cond}
 use mathlib.Core.Logic.{⊎-elim}
 use Prim.Native.Nat.{ℕ, _+_, _-_, _*_, _/_, _%_, _^_, _≤_, _<_, zero-le}
 use native.Mathlib.Nat.{eq-or-lt-of-le, le-of-suc-le-suc, le-trans, le-of-eq, lt-of-lt-of-le, lt-of-le-of-lt, lt-of-not-le, mod-lt, mod-eq-of-lt, div-eq-of-lt, sub-le}
@@ -18,29 +18,25 @@ use Rattle.broadword.proofs.Table.{each-eq}
 use Rattle.broadword.proofs.uleq_step_9.Statement.{statement}
 use Rattle.broadword.proofs.uleq_step_9.Tie as tie
 
-abbrev ifb : Bool → ℕ → ℕ → ℕ
-ifb true p q = p
-ifb false p q = q
-
 -- ---- one field
 
 -- the top bits: from those of x and y, and from how their low bits compare
 abbrev tops : ℕ → ℕ → ℕ → ℕ
 tops p q w = bitXor (bitOr w (bitXor p q)) (bitAnd p (1 - q)) % 2
 
-abbrev pick : ℕ → ℕ → ℕ → ℕ
-pick p q w = ifb (ltb p q) 1 (ifb (ltb q p) 0 w)
+abbrev chosen : ℕ → ℕ → ℕ → ℕ
+chosen p q w = cond (ltb p q) 1 (cond (ltb q p) 0 w)
 
-eight : (n : ℕ) → n < 8 → tops (n / 4) (n / 2 % 2) (n % 2) ≡ pick (n / 4) (n / 2 % 2) (n % 2)
-eight = each-eq (λ n. tops (n / 4) (n / 2 % 2) (n % 2)) (λ n. pick (n / 4) (n / 2 % 2) (n % 2)) 8 tt
+eight : (n : ℕ) → n < 8 → tops (n / 4) (n / 2 % 2) (n % 2) ≡ chosen (n / 4) (n / 2 % 2) (n % 2)
+eight = each-eq (λ n. tops (n / 4) (n / 2 % 2) (n % 2)) (λ n. chosen (n / 4) (n / 2 % 2) (n % 2)) 8 tt
 
-tops-are : (p q w : ℕ) → p < 2 → q < 2 → w < 2 → tops p q w ≡ pick p q w
+tops-are : (p q w : ℕ) → p < 2 → q < 2 → w < 2 → tops p q w ≡ chosen p q w
 tops-are p q w hp hq hw =
     let n : ℕ = p * 4 + q * 2 + w in
     let e₁ : n / 4 ≡ p = omega arith in
     let e₂ : n / 2 % 2 ≡ q = omega arith in
     let e₃ : n % 2 ≡ w = omega arith in
-    (λ i. tops (sym e₁ i) (sym e₂ i) (sym e₃ i)) ∙ eight n (omega arith) ∙ (λ i. pick (e₁ i) (e₂ i) (e₃ i))
+    (λ i. tops (sym e₁ i) (sym e₂ i) (sym e₃ i)) ∙ eight n (omega arith) ∙ (λ i. chosen (e₁ i) (e₂ i) (e₃ i))
 
 -- 256 + the low bits
 or-top : (b : ℕ) → b < 512 → bitOr b 256 ≡ 256 + b % 256
@@ -56,24 +52,24 @@ or-top b h =
 abbrev low : ℕ → ℕ → ℕ
 low a b = (256 + b % 256 - a % 256) / 256
 
-compared : (a b : ℕ) → a < 512 → b < 512 → pick (a / 256) (b / 256) (low a b) ≡ flag (leb a b)
+compared : (a b : ℕ) → a < 512 → b < 512 → chosen (a / 256) (b / 256) (low a b) ≡ flag (leb a b)
 compared a b ha hb = go (decLt (a / 256) (b / 256)) (decLt (b / 256) (a / 256)) (decLe a b)
   where
-    go : Dec (a / 256 < b / 256) → Dec (b / 256 < a / 256) → Dec (a ≤ b) → pick (a / 256) (b / 256) (low a b) ≡ flag (leb a b)
-    go (yes l) d (yes h) = ap (λ (t : Bool). ifb t 1 (ifb (ltb (b / 256) (a / 256)) 0 (low a b))) (lt-ltb (a / 256) (b / 256) l) ∙ ap flag (sym (le-leb a b h))
+    go : Dec (a / 256 < b / 256) → Dec (b / 256 < a / 256) → Dec (a ≤ b) → chosen (a / 256) (b / 256) (low a b) ≡ flag (leb a b)
+    go (yes l) d (yes h) = ap (λ (t : Bool). cond t 1 (cond (ltb (b / 256) (a / 256)) 0 (low a b))) (lt-ltb (a / 256) (b / 256) l) ∙ ap flag (sym (le-leb a b h))
     go (yes l) d (no g) = absurd (g (omega arith))
     go (no l) (yes m) (yes h) = let r = lt-of-not-le l in absurd (omega arith)
     go (no l) (yes m) (no g) =
-        ap (λ (t : Bool). ifb t 1 (ifb (ltb (b / 256) (a / 256)) 0 (low a b))) (le-ltb (a / 256) (b / 256) (omega arith))
-        ∙ ap (λ (t : Bool). ifb t 0 (low a b)) (lt-ltb (b / 256) (a / 256) m) ∙ ap flag (sym (lt-leb a b (lt-of-not-le g)))
+        ap (λ (t : Bool). cond t 1 (cond (ltb (b / 256) (a / 256)) 0 (low a b))) (le-ltb (a / 256) (b / 256) (omega arith))
+        ∙ ap (λ (t : Bool). cond t 0 (low a b)) (lt-ltb (b / 256) (a / 256) m) ∙ ap flag (sym (lt-leb a b (lt-of-not-le g)))
     go (no l) (no m) (yes h) =
         let e : low a b ≡ 1 = omega arith in
-        ap (λ (t : Bool). ifb t 1 (ifb (ltb (b / 256) (a / 256)) 0 (low a b))) (le-ltb (a / 256) (b / 256) (omega arith))
-        ∙ ap (λ (t : Bool). ifb t 0 (low a b)) (le-ltb (b / 256) (a / 256) (omega arith)) ∙ e ∙ ap flag (sym (le-leb a b h))
+        ap (λ (t : Bool). cond t 1 (cond (ltb (b / 256) (a / 256)) 0 (low a b))) (le-ltb (a / 256) (b / 256) (omega arith))
+        ∙ ap (λ (t : Bool). cond t 0 (low a b)) (le-ltb (b / 256) (a / 256) (omega arith)) ∙ e ∙ ap flag (sym (le-leb a b h))
     go (no l) (no m) (no g) =
         let e : low a b ≡ 0 = omega arith in
-        ap (λ (t : Bool). ifb t 1 (ifb (ltb (b / 256) (a / 256)) 0 (low a b))) (le-ltb (a / 256) (b / 256) (omega arith))
-        ∙ ap (λ (t : Bool). ifb t 0 (low a b)) (le-ltb (b / 256) (a / 256) (omega arith)) ∙ e ∙ ap flag (sym (lt-leb a b (lt-of-not-le g)))
+        ap (λ (t : Bool). cond t 1 (cond (ltb (b / 256) (a / 256)) 0 (low a b))) (le-ltb (a / 256) (b / 256) (omega arith))
+        ∙ ap (λ (t : Bool). cond t 0 (low a b)) (le-ltb (b / 256) (a / 256) (omega arith)) ∙ e ∙ ap flag (sym (lt-leb a b (lt-of-not-le g)))
 
 -- what the program computes of a field, with its masks
 abbrev inner : ℕ → ℕ → ℕ → ℕ → ℕ → ℕ
@@ -93,10 +89,10 @@ field a b ha hb =
 -- ---- the word
 
 abbrev sel7 : ℕ → ℕ → ℕ → ℕ
-sel7 i p q = ifb (ltb i 7) p q
+sel7 i p q = cond (ltb i 7) p q
 
 sel7-low : (i p q : ℕ) → i < 7 → sel7 i p q ≡ p
-sel7-low i p q l = ap (λ (t : Bool). ifb t p q) (lt-ltb i 7 l)
+sel7-low i p q l = ap (λ (t : Bool). cond t p q) (lt-ltb i 7 l)
 
 case7 : (P : ℕ → Type 0) → ((i : ℕ) → i < 7 → P i) → P 7 → (i : ℕ) → i < 8 → P i
 case7 P f z i h = ⊎-elim (λ (e : i ≡ 7). subst⁻¹ P e z) (λ l. f i l) (eq-or-lt-of-le (le-of-suc-le-suc h))

@@ -3,13 +3,13 @@ use mathlib.Core.Path.{_≡_}
 use Prim.Native.Nat.{_+_, _-_, _≤_}
 use native.Mathlib.Omega.{arith}
 use borrow.Author.Needs.{needs}
-use Rattle.decimal.specs.Decimal.{places}
+use Rattle.decimal.specs.Decimal.{numDigits}
 use Rattle.decimal.proofs.Writing.{places-small, count-more, count-end}
 use Rattle.decimal.proofs.count.Statement.{statement}
 use Rattle.decimal.proofs.count.Tie as tie
 
 abbrev Inv-loop : tie.InvT-loop
-Inv-loop x rest₀ k₀ rest k = (1 ≤ k) × (k ≤ 20) × (k - 1 + places (20 - k) rest ≡ places 19 x)
+Inv-loop x rest₀ k₀ rest k = (1 ≤ k) × (k ≤ 20) × (k - 1 + numDigits (20 - k) rest ≡ numDigits 19 x)
 
 abbrev μ-loop : tie.MeasureT-loop
 μ-loop x rest₀ k₀ rest k = 20 - k

@@ -7,7 +7,7 @@ use native.Mathlib.Omega.{arith}
 use mathlib.Core.Bool.{true}
 use Rattle.bit_words.specs.Inner.{Skipped}
 use Rattle.bit_words.specs.Vector.{bitOver}
-use Rattle.bit_vectors.proofs.Ahead.{left-buf, left-end, left-none, left-word}
+use Rattle.bit_vectors.proofs.OneAhead.{left-buf, left-end, left-none, left-word}
 use Rattle.bit_words.proofs.Valid.{valid}
 use Rattle.bit_vectors.proofs.unary.left_of.Statement.{statement}
 use Rattle.bit_vectors.proofs.unary.left_of.Tie as tie

@@ -8,7 +8,7 @@ use native.Mathlib.Omega.{arith}
 use Rattle.errors.specs.Answer.{value}
 use Rattle.broadword.specs.declared.Found.the-variants.{At, Nothing}
 use Rattle.bit_vectors.specs.Walk.{step, ofStepped}
-use Rattle.bit_vectors.proofs.Ahead.{lowest-cleared}
+use Rattle.bit_vectors.proofs.OneAhead.{lowest-cleared}
 use Rattle.bit_vectors.proofs.Steps as steps
 use Rattle.bit_vectors.proofs.unary.next_within.Statement.{statement}
 use Rattle.bit_vectors.proofs.unary.next_within.Tie as tie

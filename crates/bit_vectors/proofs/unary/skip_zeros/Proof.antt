@@ -9,7 +9,7 @@ use native.Mathlib.Omega.{arith}
 use lib.ListN.{length, getD}
 use Rattle.broadword.specs.Bits.{count, ones}
 use Rattle.bit_words.specs.Vector.{bitOver}
-use Rattle.bit_vectors.proofs.Ahead.{zero-ones, some-ones}
+use Rattle.bit_vectors.proofs.OneAhead.{zero-ones, some-ones}
 use Rattle.bit_words.proofs.Runs.{Fit, over-next}
 use Rattle.bit_vectors.proofs.unary.skip_zeros.Statement.{statement}
 use Rattle.bit_vectors.proofs.unary.skip_zeros.Tie as tie

@@ -2,11 +2,11 @@
 -- Assumes nothing.
 use borrow.Author.Needs.{needs}
 use mathlib.Core.Path.{_≡_, refl, sym, ap, ap₂, _∙_}
+use mathlib.Core.Bool.{cond}
 use Prim.Native.Nat.{ℕ, _+_, _-_, _*_, _/_, _≤_, _<_}
 use native.Mathlib.Numerals.{add-one}
 use native.Mathlib.Omega.{arith}
 use lib.Dec.{leb}
-use Rattle.errors.specs.Answer.{pick}
 use Rattle.broadword.specs.Bits.{count}
 use Rattle.bit_words.specs.Vector.{bitOver}
 use Rattle.darray.specs.Positions.{positions}
@@ -79,7 +79,7 @@ next-before c =
     let P = positions (a .over-one) (a .words .now) (a .len) in
     let s = c .before .before .ends .result in
     let e : c .spilled .result ≡ spill P (l .j) =
-    c .spilled .ensures ∙ ap (λ (z : ℕ). pick (leb 65536 (s .last - s .first)) z 0) (c .before .block-size .ensures)
+    c .spilled .ensures ∙ ap (λ (z : ℕ). cond (leb 65536 (s .last - s .first)) z 0) (c .before .block-size .ensures)
     ∙ block.spill-is (a .over-one) (a .words .now) (a .len) (n .result) (n .ensures) (l .j) s (there (c .before .before .before .before)) (c .before .before .ends .ensures) in
     ap₂ (λ (x y : ℕ). x + y) (l .inv .1) e ∙ sym (ap (before P) (add-one (l .j)) ∙ index.before-next P (l .j))
 

@@ -5,7 +5,7 @@ use mathlib.Core.Path.{_≡_, sym, ap, subst}
 use Prim.Native.Nat.{ℕ, _+_, _-_, _*_}
 use native.Mathlib.Omega.{arith}
 use Rattle.bit_words.specs.Vector.{bitOver}
-use Rattle.darray.specs.Scan.{Hits, lastOf}
+use Rattle.darray.specs.Scan.{Hits, lastInBlock}
 use Rattle.darray.proofs.Blocks as blocks
 use Rattle.darray.proofs.scan.ends.Statement.{statement}
 use Rattle.darray.proofs.scan.ends.Tie as tie
@@ -31,13 +31,13 @@ find-requires-2 : tie.Need-find-requires-2
 find-requires-2 c κs =
     let p = c .before .before .before .before .pre in
     let a = c .before .before .before .before .args in
-    let e : lastOf (a .n) (a .block) ≡ 1024 * a .block + (c .block-size .result - 1) = ap (λ (s : ℕ). 1024 * a .block + (s - 1)) (sym (c .block-size .ensures)) in
+    let e : lastInBlock (a .n) (a .block) ≡ 1024 * a .block + (c .block-size .result - 1) = ap (λ (s : ℕ). 1024 * a .block + (s - 1)) (sym (c .block-size .ensures)) in
     (p .0, blocks.ahead-le _ _ _ _ (omega arith) (c .before .before .find .ensures .ahead), blocks.inside-le _ _ _ _ (omega arith) (p .2))
 
 returns : tie.Need-returns
 returns c =
     let a = c .before .before .before .before .before .before .args in
-    let e : 1024 * a .block + (c .before .before .block-size .result - 1) ≡ lastOf (a .n) (a .block) = ap (λ (s : ℕ). 1024 * a .block + (s - 1)) (c .before .before .block-size .ensures) in
+    let e : 1024 * a .block + (c .before .before .block-size .result - 1) ≡ lastInBlock (a .n) (a .block) = ap (λ (s : ℕ). 1024 * a .block + (s - 1)) (c .before .before .block-size .ensures) in
     let h = subst (λ (k : ℕ). Hits (bitOver (a .over-one) (a .words .now)) k (c .before .find2 .result)) e (c .before .find2 .ensures) in
     record {
       first = c .before .before .before .before .find .ensures .position;

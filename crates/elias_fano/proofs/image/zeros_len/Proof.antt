@@ -2,9 +2,8 @@
 -- Assumes nothing.
 use borrow.Author.Needs.{needs}
 use mathlib.Core.Path.{sym, ap, _∙_}
-use mathlib.Core.Bool.{Bool}
+use mathlib.Core.Bool.{Bool, cond}
 use Prim.Native.Nat.{_-_}
-use Rattle.errors.specs.Answer.{pick}
 use Rattle.elias_fano.specs.Accept.{indexLen}
 use Rattle.elias_fano.proofs.image.zeros_len.Statement.{statement}
 use Rattle.elias_fano.proofs.image.zeros_len.Tie as tie
@@ -16,10 +15,10 @@ index-len-requires : tie.Need-index-len-requires
 index-len-requires c κs = search needs
 
 returns : tie.Need-returns
-returns c = c .index-len .ensures ∙ ap (λ (b : Bool). pick b (indexLen (c .before .before .before .args .p .«high_len» - c .before .before .before .args .p .«num_pushed») (c .before .before .before .args .overflow)) 0) (sym (c .before .before .if1 .taken))
+returns c = c .index-len .ensures ∙ ap (λ (b : Bool). cond b (indexLen (c .before .before .before .args .p .«high_len» - c .before .before .before .args .p .«num_pushed») (c .before .before .before .args .overflow)) 0) (sym (c .before .before .if1 .taken))
 
 returns-2 : tie.Need-returns-2
-returns-2 c = ap (λ (b : Bool). pick b (indexLen (c .before .args .p .«high_len» - c .before .args .p .«num_pushed») (c .before .args .overflow)) 0) (sym (c .if1 .left))
+returns-2 c = ap (λ (b : Bool). cond b (indexLen (c .before .args .p .«high_len» - c .before .args .p .«num_pushed») (c .before .args .overflow)) 0) (sym (c .if1 .left))
 
 pub zeros-len-spec : {M : Type 1} → statement M
 zeros-len-spec = tie.close (tie.spec sub-index-len index-len-requires returns returns-2)

@@ -20,7 +20,7 @@ use Rattle.broadword.proofs.Find.{selected, select-at, select-none}
 use Rattle.broadword.proofs.Lowest.{odd-times, bit-one, none-below, short}
 use Rattle.bit_words.specs.Vector.{bitOver, wordsFor}
 use Rattle.bit_words.specs.Inner.{Skipped}
-use Rattle.bit_vectors.specs.Inner.{Ahead}
+use Rattle.bit_vectors.specs.Inner.{OneAhead}
 use Rattle.bit_vectors.specs.Walk.{restOf}
 use Rattle.bit_words.proofs.Search.{rest-at, rest-over}
 use Rattle.bit_words.proofs.Runs.{Fit, getD-past, bitOver-word, over-next}
@@ -126,7 +126,7 @@ module _ (ws : List ℕ) (len from at : ℕ) (fit : Fit ws) (v : Valid ws len) w
   g = bitOver true ws
 
   -- nothing
-  pub ahead-none : count g len ≤ count g from → Ahead ws len from at 0
+  pub ahead-none : count g len ≤ count g from → OneAhead ws len from at 0
   ahead-none h = record { small = lit< tt; nothing = λ _. select-none g len (count g from + 0) (omega arith); place = λ t e. absurd (lowest-zero t e) }
 
   -- in the word `at`, from the place `start` on, with as many ones before it
@@ -138,7 +138,7 @@ module _ (ws : List ℕ) (len from at : ℕ) (fit : Fit ws) (v : Valid ws len) w
         let d = split (getD ws at 0) s in
         lt-of-le-of-lt (le-trans (le-of-eq is) (omega arith)) (fit at)
 
-    pub ahead-some : (x ≡ 0 → ⊥) → Ahead ws len from at x
+    pub ahead-some : (x ≡ 0 → ⊥) → OneAhead ws len from at x
     ahead-some n = record { small = x-lt; nothing = λ e. absurd (n e); place = found }
       where
         found : (t : ℕ) → select (bit x) 64 0 ≡ At t → (at * 64 + t < len) × (select g len (count g from + 0) ≡ At (at * 64 + t)) × (x / 2 ^ (t + 1) * 2 ^ (t + 1) ≡ restOf ws len (at * 64 + t) (at * 64 + t + 1))
@@ -172,10 +172,10 @@ module _ (ws : List ℕ) (len p q buf : ℕ) (fit : Fit ws) (v : Valid ws len) (
   in-word : p / 64 < wordsFor len → buf ≡ getD ws (p / 64) 0 / 2 ^ (q - p / 64 * 64) * 2 ^ (q - p / 64 * 64)
   in-word l = is ∙ rest-is ws len (v .room) (p / 64) p q refl l
 
-  pub left-buf : (buf ≡ 0 → ⊥) → Ahead ws len q (p / 64) buf
+  pub left-buf : (buf ≡ 0 → ⊥) → OneAhead ws len q (p / 64) buf
   left-buf n = go (decLt (p / 64) (wordsFor len))
     where
-      go : Dec (p / 64 < wordsFor len) → Ahead ws len q (p / 64) buf
+      go : Dec (p / 64 < wordsFor len) → OneAhead ws len q (p / 64) buf
       go (yes l) = ahead-some ws len q (p / 64) fit v q buf (omega arith) (omega arith) l refl (in-word l) n
       go (no g) = absurd (n (is ∙ rest-past ws len (v .room) p q (omega (arith, lt-of-not-le g))))
 
@@ -185,10 +185,10 @@ module _ (ws : List ℕ) (len p q buf : ℕ) (fit : Fit ws) (v : Valid ws len) (
       rest-over true ws fit q (p / 64) (omega arith) (omega arith)
       ∙ ap (λ (x : ℕ). count (bitOver true ws) q + ones x 64) (sym (in-word l) ∙ z) ∙ ap (λ (x : ℕ). count (bitOver true ws) q + x) (zero-ones 64) ∙ add-zero (count (bitOver true ws) q)
 
-  pub left-end : buf ≡ 0 → wordsFor len ≤ p / 64 + 1 → Ahead ws len q (p / 64) 0
+  pub left-end : buf ≡ 0 → wordsFor len ≤ p / 64 + 1 → OneAhead ws len q (p / 64) 0
   left-end z h = go (decLt (p / 64) (wordsFor len))
     where
-      go : Dec (p / 64 < wordsFor len) → Ahead ws len q (p / 64) 0
+      go : Dec (p / 64 < wordsFor len) → OneAhead ws len q (p / 64) 0
       go (yes l) = ahead-none ws len q (p / 64) fit v (le-trans (count-mono (bitOver true ws) len ((p / 64 + 1) * 64) (omega arith)) (le-of-eq (after z l)))
       go (no g) = let m = lt-of-not-le g in ahead-none ws len q (p / 64) fit v (count-mono (bitOver true ws) len q (omega arith))
 
@@ -196,10 +196,10 @@ module _ (ws : List ℕ) (len p q buf : ℕ) (fit : Fit ws) (v : Valid ws len) (
     same : count (bitOver true ws) (i * 64) ≡ count (bitOver true ws) q
     same = let e = s .before in let a = after z (omega arith) in omega arith
 
-    pub left-none : i ≡ wordsFor len → Ahead ws len q (p / 64) 0
+    pub left-none : i ≡ wordsFor len → OneAhead ws len q (p / 64) 0
     left-none e = ahead-none ws len q (p / 64) fit v (le-trans (count-mono (bitOver true ws) len (i * 64) (omega arith)) (le-of-eq same))
 
-    pub left-word : i < wordsFor len → Ahead ws len q i (getD ws i 0)
+    pub left-word : i < wordsFor len → OneAhead ws len q i (getD ws i 0)
     left-word h =
         ahead-some ws len q i fit v (i * 64) (getD ws i 0) (le-refl (i * 64)) (omega arith) h same whole
         (λ e. let a = over-next true ws fit i in let o : ones (getD ws i 0) 64 ≡ 0 = ap (λ (x : ℕ). ones x 64) e ∙ zero-ones 64 in let m = s .here h in omega arith)
