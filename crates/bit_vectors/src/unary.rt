@@ -1,13 +1,14 @@
 // A walk over the ones of a bit vector. Its state is a value beside the words and the length, which each call takes again.
 //
 // `next` takes the place that it gives; `skip1` and `skip0` stop on it without taking it. A none ends the walk. `next_within` is `next` for a
-// caller that loops: it demands a walk over these bits, as `new` and each step leave it, and costs a constant and the words that it passes.
+// caller that loops: it demands a walk over these bits, as `new` and each step leave it, and the table of `lsb_by`, and costs a constant and the
+// words that it passes.
 ghost use mathlib.Core.Path.{_≡_};
 ghost use mathlib.Core.Bool.{true, false};
 ghost use Prim.Native.Nat.{_+_, _*_, _/_, _%_, _^_, _≤_, _<_};
 ghost use lib.ListN.{length, getD};
 ghost use Rattle.broadword.specs.Bits.{bit};
-ghost use Rattle.broadword.specs.Places.{select};
+ghost use Rattle.broadword.specs.Places.{select, Debruijn64};
 ghost use Rattle.bit_words.specs.Vector.{bitOver, invalid};
 ghost use Rattle.bit_words.specs.Inner.{Skipped};
 ghost use Rattle.bit_vectors.specs.Inner.{OneAhead, stopAt};
@@ -18,7 +19,8 @@ use bit_words::find_from;
 use bit_words::is_invalid;
 use bit_words::words_for;
 use broadword::Found;
-use broadword::bsf64;
+use broadword::debruijn64_table;
+use broadword::lsb_by;
 use broadword::select_in_byte_table;
 use errors::Refusal;
 
@@ -135,18 +137,17 @@ fn left_of(words: &[u64], len: usize, w: Unary) -> Left
     }
 }
 
-// `next`, of a walk over these bits.
-pub fn next_within(words: &[u64], len: usize, w: Unary) -> Stepped
-    requires { ⌜ Walking (now words) len w ⌝ }
+// `next`, of a walk over these bits, with the table of `lsb_by` lent.
+pub fn next_within(words: &[u64], len: usize, w: Unary, table: &[u8; 64]) -> Stepped
+    requires { ⌜ (Walking (now words) len w × Debruijn64 (now table)) ⌝ }
     ensures { λ r. ⌜ ofStepped r ≡ nextOf (now (words .entry)) len w ⌝ }
 {
     let left = left_of(words, len, w);
     let at = left.at;
     let rest = left.rest;
-    if rest == 0 {
+    let Found::At(bit) = lsb_by(table, rest) else {
         return ended(len);
-    }
-    let bit = bsf64(rest);
+    };
     let place = at * WORD_LEN + bit;
     Stepped {
         place: Place::At(place),
@@ -172,7 +173,8 @@ pub fn next(words: &[u64], len: usize, w: Unary) -> Stepped
     if len <= from {
         return ended(len);
     }
-    next_within(words, len, walk_from(words, from))
+    let table = debruijn64_table();
+    next_within(words, len, walk_from(words, from), &table)
 }
 
 // The walk stops on a place, if it lies below the length.

@@ -9,4 +9,3 @@ pub mod Smear
 pub mod Spread
 pub mod Table
 pub mod Threshold
-pub mod Trailing

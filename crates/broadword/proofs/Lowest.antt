@@ -1,7 +1,7 @@
 -- The lowest one of a number: n is odd times 2 ^ t. `x & -x` is 2 ^ t. Assumes nothing.
 use mathlib.Core.Path.{_≡_, sym, ap, ap₂, _∙_}
 use Prim.Native.Nat.{ℕ, zero, suc, _+_, _-_, _*_, _/_, _%_, _^_, _≤_, _<_, min}
-use native.Mathlib.Nat.{not-suc-le-zero, le-dest, mul-one, mul-assoc, pow-suc, add-zero, lt-of-mul-lt-mul-right, mul-div-cancel, lt-of-le-of-lt, le-trans, le-of-eq, lt-of-not-le, not-le-of-lt, one-mul, mul-le-mul-right, add-mul}
+use native.Mathlib.Nat.{not-suc-le-zero, le-dest, pos-of-ne-zero, mul-one, mul-assoc, pow-suc, add-zero, lt-of-mul-lt-mul-right, mul-div-cancel, lt-of-le-of-lt, le-trans, le-of-eq, lt-of-not-le, not-le-of-lt, one-mul, mul-le-mul-right, add-mul}
 use native.Mathlib.Decide.{ℕ-discrete}
 use native.Mathlib.Omega.{arith}
 use lib.Arith.{bin-ind}
@@ -9,7 +9,10 @@ use lib.Dec.{lit<}
 use lib.Pow.{pow-pos, pow-add, pow-mono}
 use lib.Bits.{bitAnd, and-step, and-block}
 use Rattle.broadword.specs.Bits.{bit, count}
-use Rattle.broadword.proofs.Count.{count-zero}
+use Rattle.broadword.specs.Places.{select}
+use Rattle.broadword.specs.declared.Found.the-variants.{At, Nothing}
+use Rattle.broadword.proofs.Count.{count-zero, bit-above}
+use Rattle.broadword.proofs.Find.{select-at, select-none}
 
 abbrev pub Odd-times : ℕ → Type 0
 Odd-times n = (t : ℕ) × (m : ℕ) × (n ≡ (m * 2 + 1) * 2 ^ t)
@@ -74,3 +77,26 @@ module _ (x t m : ℕ) (e : x ≡ (m * 2 + 1) * 2 ^ t) where
       ∙ add-zero (bitAnd (m * 2 + 1) (d * 2 + 1) * 2 ^ t)
       ∙ ap (λ (y : ℕ). y * 2 ^ t) (and-block 1 m d 1 1 (lit< tt) (lit< tt) ∙ ap (λ (y : ℕ). y * 2 + 1) (and-comp k m (omega arith)))
       ∙ one-mul (2 ^ t)
+
+-- ---- there is a lowest one exactly in a word that is not 0
+
+pub zero-none : (x : ℕ) → x ≡ 0 → select (bit x) 64 0 ≡ Nothing
+zero-none x e =
+    ap (λ (y : ℕ). select (bit y) 64 0) e ∙ select-none (bit 0) 64 0 (le-of-eq (count-zero (bit 0) 64 (λ i _. bit-above 0 i (pow-pos i))))
+
+pub at-some : (x t : ℕ) → select (bit x) 64 0 ≡ At t → x ≡ 0 → ⊥
+at-some x t s e = let n : select (bit x) 64 0 ≡ Nothing = zero-none x e in let z : _≡_ {A = ℕ} 0 1 = cc in omega arith
+
+pub none-zero : (x : ℕ) → x < 2 ^ 64 → select (bit x) 64 0 ≡ Nothing → x ≡ 0
+none-zero x h n = go (ℕ-discrete x 0)
+  where
+    found : (x ≡ 0 → ⊥) → x ≡ 0
+    found z =
+        let o = odd-times x (pos-of-ne-zero z) in
+        let a : select (bit x) 64 0 ≡ At (o .0) = select-at (bit x) 64 0 (o .0) (short x (o .0) (o .1) (o .2) 64 h) (bit-one x (o .0) (o .1) (o .2)) (none-below x (o .0) (o .1) (o .2)) in
+        let c : _≡_ {A = ℕ} 0 1 = cc in
+        omega arith
+
+    go : Dec (x ≡ 0) → x ≡ 0
+    go (yes e) = e
+    go (no z) = found z

@@ -1,15 +1,13 @@
 // Broadword tools: products that wrap, the number of ones of a word, and the places where they stand.
 //
-// All run in constant time. `select_in_word_by` is `select_in_word` for a caller that loops: it is lent the table, which
-// `select_in_byte_table` makes, and demands that it is that table; `bsf64` is `lsb` for such a caller, and demands a word that is not 0. The functions
-// that are not public demand what they say.
+// All run in constant time. `select_in_word_by` and `lsb_by` are `select_in_word` and `lsb` for a caller that loops: they are lent the table, which
+// `select_in_byte_table` and `debruijn64_table` make, and demand that it is that table. The functions that are not public demand what they say.
 ghost use mathlib.Core.Path.{_≡_};
 ghost use Prim.Native.Nat.{ℕ, _*_, _%_, _^_, _<_};
 ghost use lib.Dec.{leb};
 ghost use Rattle.broadword.specs.Bits.{bit, count, ones};
 ghost use Rattle.broadword.specs.Fields.{digit, word, flag, LowBytes};
-ghost use Rattle.broadword.specs.Places.{last, select, orElse, SelectInByte};
-ghost use Rattle.broadword.specs.declared.Found.the-variants.{At};
+ghost use Rattle.broadword.specs.Places.{last, select, orElse, SelectInByte, Debruijn64};
 
 mod tables;
 
@@ -143,32 +141,39 @@ pub fn select_in_word(x: u64, k: usize) -> Found
     select_in_word_by(&table, x, k)
 }
 
+// The table of `lsb_by`, made on the stack: for a caller that loops, once.
+pub fn debruijn64_table() -> [u8; 64]
+    ensures { λ r. ⌜ Debruijn64 r ⌝ }
+{
+    DEBRUIJN64_MAPPING
+}
+
 // The place of the one bit of x that is set: each power of two shifts another six bits of DEBRUIJN64 to its top.
-fn bit_position(x: u64) -> usize
-    requires { ⌜ ((k : ℕ) × (k < 64) × (x ≡ 2 ^ k)) ⌝ }
+fn bit_position(table: &[u8; 64], x: u64) -> usize
+    requires { ⌜ (Debruijn64 (now table) × ((k : ℕ) × (k < 64) × (x ≡ 2 ^ k))) ⌝ }
     ensures { λ r. ⌜ ((k : ℕ) → k < 64 → x ≡ 2 ^ k → r ≡ k) ⌝ }
 {
-    let at = (wrapping_mul(DEBRUIJN64, x) >> 58) as usize;
-    wide(DEBRUIJN64_MAPPING[at])
+    wide(table[(wrapping_mul(DEBRUIJN64, x) >> 58) as usize])
+}
+
+// `lsb`, with the table lent.
+pub fn lsb_by(table: &[u8; 64], x: u64) -> Found
+    requires { ⌜ Debruijn64 (now table) ⌝ }
+    ensures { λ r. ⌜ r ≡ select (bit x) 64 0 ⌝ }
+{
+    if x == 0 {
+        Found::Nothing
+    } else {
+        Found::At(bit_position(table, x & wrapping_mul(u64::MAX, x)))
+    }
 }
 
 // The place of the lowest one.
 pub fn lsb(x: u64) -> Found
     ensures { λ r. ⌜ r ≡ select (bit x) 64 0 ⌝ }
 {
-    if x == 0 {
-        Found::Nothing
-    } else {
-        Found::At(bit_position(x & wrapping_mul(u64::MAX, x)))
-    }
-}
-
-// The place of the lowest one of a word that is not 0, by the machine's own count: `lsb` for a caller that loops.
-pub fn bsf64(x: u64) -> usize
-    requires { ⌜ (x ≡ 0 → ⊥) ⌝ }
-    ensures { λ r. ⌜ select (bit x) 64 0 ≡ At r ⌝ }
-{
-    u64::trailing_zeros(x) as usize
+    let table = debruijn64_table();
+    lsb_by(&table, x)
 }
 
 // The place of the highest one: every bit below it is set, and then all but it cleared.
@@ -186,5 +191,6 @@ pub fn msb(x: u64) -> Found
     v |= v >> 16;
     v |= v >> 32;
     v ^= v >> 1;
-    Found::At(bit_position(v))
+    let table = debruijn64_table();
+    Found::At(bit_position(&table, v))
 }

@@ -1,10 +1,11 @@
 -- The blocks of a bit vector's positions, by what a scan of its words finds. Assumes nothing.
-use mathlib.Core.Path.{_≡_, sym, ap, ap₂, _∙_, subst}
+use mathlib.Core.Path.{_≡_, refl, sym, ap, ap₂, _∙_, subst}
 use mathlib.Core.List.{List}
 use mathlib.Core.Bool.{Bool, cond}
 use Prim.Native.Nat.{ℕ, suc, _+_, _-_, _*_, _^_, _≤_, _<_, min}
 use native.Mathlib.Nat.{le-refl, le-trans, lt-of-le-of-lt, lt-of-not-le}
 use native.Mathlib.Decide.{decLe}
+use native.Mathlib.Numerals.{add-one}
 use native.Mathlib.Omega.{arith}
 use lib.Dec.{leb}
 use lib.ListN.{length}
@@ -13,7 +14,7 @@ use Rattle.broadword.proofs.Count.{count-mono}
 use Rattle.bit_words.specs.Vector.{bitOver}
 use Rattle.bit_words.proofs.Runs.{bitOver-le}
 use Rattle.darray.specs.Positions.{places, positions}
-use Rattle.darray.specs.Index.{pos, size, wide, spill}
+use Rattle.darray.specs.Index.{pos, size, wide, spill, before}
 use Rattle.darray.specs.Scan.{Position, Ahead, Inside, Spans, lastInBlock}
 use Rattle.darray.specs.declared.scan.Cursor.{Cursor}
 use Rattle.darray.specs.declared.scan.Span.{Span}
@@ -70,3 +71,29 @@ module _ (b : Bool) (ws : List ℕ) (len n : ℕ) (e : n ≡ count (bitOver b ws
     pub spill-is : cond (leb 65536 (s .last - s .first)) (min 1024 (n - 1024 * j)) 0 ≡ spill (positions b ws len) j
     unfolding spill
     spill-is = ap₂ (λ (w : Bool) (z : ℕ). cond w z 0) wide-is size-is
+
+-- ---- a full block, by its ends
+
+module _ (b : Bool) (ws : List ℕ) (len j : ℕ) (h : 1024 * j + 1023 < count (bitOver b ws) len) (first last : ℕ) (p : Position (bitOver b ws) (1024 * j) first) (q : Position (bitOver b ws) (1024 * j + 1023) last) (c d : Cursor) (ac : Ahead (bitOver b ws) c (1024 * j)) (ad : Ahead (bitOver b ws) d (1024 * j + 1023)) where
+  abbrev n : ℕ
+  n = count (bitOver b ws) len
+
+  ends : Span
+  ends = record { first = first; last = last; from = c; next = d }
+
+  full : min 1024 (n - 1024 * j) ≡ 1024
+  full = omega arith
+
+  last-number : 1024 * j + 1023 ≡ lastInBlock n j
+  last-number = omega arith
+
+  spans : Spans (bitOver b ws) n j ends
+  unfolding ends
+  spans = record { first = p; last = subst (λ (k : ℕ). Position (bitOver b ws) k last) last-number q; from = ac; next = subst (λ (k : ℕ). Ahead (bitOver b ws) d k) last-number ad }
+
+  -- what it spills, with o spilled before it
+  pub full-next : (o k : ℕ) → o ≡ before (positions b ws len) j → k ≡ cond (leb 65536 (last - first)) 1024 0 → o + k ≡ before (positions b ws len) (j + 1)
+  unfolding ends
+  full-next o k e g =
+      let s : k ≡ spill (positions b ws len) j = g ∙ ap (λ (z : ℕ). cond (leb 65536 (last - first)) z 0) (sym full) ∙ spill-is b ws len n refl j ends (omega arith) spans in
+      ap₂ (λ (x y : ℕ). x + y) e s ∙ sym (ap (before (positions b ws len)) (add-one j) ∙ index.before-next (positions b ws len) j)

@@ -1,9 +1,9 @@
 -- Counting and seeking the positions of a bit vector word by word. Assumes nothing.
-use mathlib.Core.Path.{_≡_, refl, sym, ap, ap₂, _∙_}
+use mathlib.Core.Path.{_≡_, refl, sym, ap, ap₂, _∙_, subst}
 use mathlib.Core.List.{List}
 use mathlib.Core.Bool.{Bool}
 use Prim.Native.Nat.{ℕ, _+_, _-_, _*_, _/_, _%_, _^_, _≤_, _<_}
-use native.Mathlib.Nat.{le-of-lt, le-dest, lt-of-lt-of-le, mod-lt, div-add-mod', lt-of-mul-lt-mul-right, add-zero}
+use native.Mathlib.Nat.{le-refl, le-of-lt, le-dest, lt-of-lt-of-le, mod-lt, div-add-mod', lt-of-mul-lt-mul-right, add-zero}
 use native.Mathlib.Omega.{arith}
 use lib.Pow.{pow-pos, pow-mono}
 use lib.ListN.{length, getD}
@@ -15,7 +15,7 @@ use Rattle.broadword.proofs.Find.{selected, select-at, select-some}
 use Rattle.bit_words.specs.Vector.{bitOver, wordOver}
 use Rattle.bit_words.proofs.Runs.{Fit, bitOver-le, bitOver-word, count-word, count-next}
 use Rattle.darray.specs.declared.scan.Cursor.{Cursor}
-use Rattle.darray.specs.Scan.{Position, Ahead, Inside}
+use Rattle.darray.specs.Scan.{Position, Ahead, Inside, Ranging, Reaches}
 use Rattle.darray.proofs.Positions.{below}
 
 -- the ones of the n low bits
@@ -88,3 +88,24 @@ cursor-at b ws fit m p c q e =
 
 pub below-le : (b : Bool) (ws : List ℕ) → Fit ws → (m p c : ℕ) → Position (bitOver b ws) m p → c ≡ ones (wordOver b (getD ws (p / 64) 0) % 2 ^ (p % 64)) 64 → c ≤ m
 below-le b ws fit m p c q e = omega (arith, q .before, count-part b ws fit p (count (bitOver b ws) (p / 64 * 64)) c refl e)
+
+-- ---- a position that is inside, looked for in all words
+
+module _ (b : Bool) (ws : List ℕ) (k : ℕ) (n : Inside (bitOver b ws) (length ws) k) where
+  word-in : (c : Cursor) → Ahead (bitOver b ws) c k → c .word < length ws
+  word-in c a = word-below b ws (c .word) k (subst (λ (x : ℕ). x ≤ k) (a .counted) (a .to-come)) n
+
+  pub ranging : (c : Cursor) → Ahead (bitOver b ws) c k → Ranging c (length ws) (length ws)
+  ranging c a = record { upto = le-of-lt (word-in c a); room = le-refl (length ws) }
+
+  -- it is reached
+  pub reached : (from c : Cursor) → Reaches b ws from k (length ws) c → (c .word < length ws) × (c .word * 64 ≤ 2 ^ 63) × (k < c .before + ones (wordOver b (getD ws (c .word) 0)) 64)
+  reached from c r =
+      let a = r .ahead in
+      (word-in c a, word-le (bitOver b ws) (length ws) k (c .word) (subst (λ (x : ℕ). x ≤ k) (a .counted) (a .to-come)) n, r .here (word-in c a))
+
+-- where a position is reached before the word `end`, it is one of the words before that
+pub reached-below : (b : Bool) (ws : List ℕ) → Fit ws → (from c : Cursor) (k end : ℕ) → Reaches b ws from k end c → c .word < end → k < count (bitOver b ws) (end * 64)
+reached-below b ws fit from c k end r h =
+    let e = count-up b ws fit (c .before) (c .word) (ones (wordOver b (getD ws (c .word) 0)) 64) (r .ahead .counted) refl in
+    omega (arith, r .here h, count-mono (bitOver b ws) ((c .word + 1) * 64) (end * 64) (omega arith))

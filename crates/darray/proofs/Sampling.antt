@@ -1,19 +1,17 @@
 -- Which positions of a block are stored where not all are needed. Assumes nothing.
-use mathlib.Core.Path.{_≡_, sym, ap₂, _∙_, subst, subst⁻¹}
+use mathlib.Core.Path.{_≡_, sym, _∙_, subst}
 use mathlib.Core.List.{List}
 use mathlib.Core.Bool.{Bool, true, false, cond}
 use mathlib.Core.Logic.{_⊎_, inl, inr, ⊎-elim}
 use Prim.Native.Nat.{ℕ, _+_, _-_, _*_, _≤_, _<_, min}
 use native.Mathlib.Decide.{ℕ-discrete, decLt}
 use native.Mathlib.Omega.{arith}
-use lib.Dec.{leb}
 use lib.ListN.{length, getD, set, length-set}
 use lib.Seq.{getD-set-same, getD-set-other}
-use Rattle.darray.specs.Scan.{Position, Ahead, Spans}
+use Rattle.darray.specs.Scan.{Position, Ahead}
 use Rattle.darray.specs.Pending.{Due, Sampled, Loaded, blockWide}
 use Rattle.darray.specs.declared.scan.Cursor.{Cursor}
-use Rattle.darray.specs.declared.scan.Span.{Span}
-use Rattle.darray.proofs.Blocks.{position-same}
+use Rattle.darray.proofs.Blocks.{position-le}
 
 pub due-32 : (w : Bool) (i : ℕ) → Due w (32 * i)
 due-32 true i = tt
@@ -35,14 +33,6 @@ due-last w i m d h e = by (decLt m i) w d h e
     by (yes l) w d h e = inl l
     by (no l) true d h e = inr (omega arith)
     by (no l) false d h e = inr (omega arith)
-
-pub stride-pos : (w : Bool) → 1 ≤ cond w 1 32
-stride-pos true = omega arith
-stride-pos false = omega arith
-
-pub stride-le : (w : Bool) → cond w 1 32 ≤ 32
-stride-le true = omega arith
-stride-le false = omega arith
 
 module _ (f : ℕ → ℕ) (k size : ℕ) (w : Bool) (a : List ℕ) (long : length a ≡ 1024) (few : size ≤ 1024) (i : ℕ) (stored : (m : ℕ) → m < i → m < size → Due w m → Position f (k + m) (getD a m 0)) (x : ℕ) where
   -- one more is stored
@@ -66,22 +56,16 @@ module _ (f : ℕ → ℕ) (k size : ℕ) (w : Bool) (a : List ℕ) (long : leng
 
 -- ---- a block that is loaded
 
-module _ (f : ℕ → ℕ) (n j z : ℕ) (ez : z ≡ min 1024 (n - 1024 * j)) (a : List ℕ) where
-  -- where all positions are stored, those that are due are
-  pub loaded-all : (c : Cursor) → Sampled f (1024 * j) z true a → Ahead f c (1024 * j + (z - 1)) → Loaded f n j a c
-  loaded-all c s h = record {
-    sampled = subst (λ (x : ℕ). Sampled f (1024 * j) x (blockWide a x) a) ez (record { long = s .long; stored = λ i l d. s .stored i l tt; last = s .last });
-    next = subst (λ (x : ℕ). Ahead f c (1024 * j + (x - 1))) ez h;
-  }
+-- the first of the stored positions is not past the last
+pub sampled-rises : (f : ℕ → ℕ) (k size : ℕ) (w : Bool) (a : List ℕ) → 0 < size → Sampled f k size w a → getD a 0 0 ≤ getD a (size - 1) 0
+sampled-rises f k size w a h s = position-le f (k + 0) (k + (size - 1)) (getD a 0 0) (getD a (size - 1) 0) (s .stored 0 h (due-0 w)) (s .last) (omega arith)
 
-  -- where they are stored by the ends e, those ends say which are due
-  pub loaded-due : (e : Span) → 1024 * j < n → Spans f n j e → Sampled f (1024 * j) z (leb 65536 (e .last - e .first)) a → Loaded f n j a (e .next)
-  unfolding blockWide
-  loaded-due e h p s =
-      let k : ℕ = 1024 * j in
-      let d : k + 0 ≡ k = omega arith in
-      let q : Position f (k + (z - 1)) (e .last) = subst⁻¹ (λ (x : ℕ). Position f (k + (x - 1)) (e .last)) ez (p .last) in
-      let first : getD a 0 0 ≡ e .first = position-same f k (getD a 0 0) (e .first) (subst (λ (i : ℕ). Position f i (getD a 0 0)) d (s .stored 0 (omega arith) (due-0 (leb 65536 (e .last - e .first))))) (p .first) in
-      let last : getD a (z - 1) 0 ≡ e .last = position-same f (k + (z - 1)) (getD a (z - 1) 0) (e .last) (s .last) q in
-      let w : Sampled f k z (blockWide a z) a = subst (λ (v : Bool). Sampled f k z v a) (ap₂ (λ (x y : ℕ). leb 65536 (x - y)) (sym last) (sym first)) s in
-      record { sampled = subst (λ (x : ℕ). Sampled f k x (blockWide a x) a) ez w; next = p .next }
+-- where all positions are stored, those that are due are
+pub sampled-all : (f : ℕ → ℕ) (k size : ℕ) (w : Bool) (a : List ℕ) → Sampled f k size true a → Sampled f k size w a
+sampled-all f k size w a s = record { long = s .long; stored = λ i l d. s .stored i l tt; last = s .last }
+
+pub loaded : (f : ℕ → ℕ) (n j z : ℕ) → z ≡ min 1024 (n - 1024 * j) → (a : List ℕ) (c : Cursor) → Sampled f (1024 * j) z (blockWide a z) a → Ahead f c (1024 * j + (z - 1)) → Loaded f n j a c
+loaded f n j z e a c s h = record {
+  sampled = subst (λ (x : ℕ). Sampled f (1024 * j) x (blockWide a x) a) e s;
+  next = subst (λ (x : ℕ). Ahead f c (1024 * j + (x - 1))) e h;
+}

@@ -30,10 +30,6 @@ count-more : (f : ℕ → ℕ) (n : ℕ) → count f (suc n) ≡ count f n + f n
 unfolding count
 count-more f n = refl
 
--- a word with no one has no place
-none-of-0 : (k : ℕ) → select (bit 0) 64 k ≡ Nothing
-none-of-0 k = select-none (bit 0) 64 k (omega (arith, count-zero (bit 0) 64 (λ i _. bit-above 0 i (pow-pos i))))
-
 -- where no place is found, no more than k ones stand
 few : (w k : ℕ) → select (bit w) 64 k ≡ Nothing → ones w 64 ≤ k
 few w k e = by (decLe (ones w 64) k)
@@ -48,11 +44,11 @@ few w k e = by (decLe (ones w 64) k)
 
 module _ (b : Bool) (ws : List ℕ) (fit : Fit ws) (i w k : ℕ) (l : Left b ws i w k) where
   -- nothing is left: the next word is taken from
-  pub left-next : w ≡ 0 → Left b ws (i + 1) (wordOver b (getD ws (i + 1) 0)) k
+  pub left-next : select (bit w) 64 0 ≡ Nothing → Left b ws (i + 1) (wordOver b (getD ws (i + 1) 0)) k
   left-next z =
       let n : ℕ = count (bitOver b ws) (i * 64) in
       let v : ℕ = wordOver b (getD ws i 0) in
-      let s : select (bit v) 64 (k - n + 0) ≡ Nothing = sym (l .ones-left 0) ∙ ap (λ (x : ℕ). select (bit x) 64 0) z ∙ none-of-0 0 in
+      let s : select (bit v) 64 (k - n + 0) ≡ Nothing = sym (l .ones-left 0) ∙ z in
       let e : k ≡ count (bitOver b ws) ((i + 1) * 64) = omega (arith, few v (k - n + 0) s, l .low, l .high, counts.count-up b ws fit n i (ones v 64) refl refl) in
       record {
         low = le-of-eq (sym e);

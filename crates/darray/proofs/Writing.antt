@@ -8,12 +8,12 @@ use native.Mathlib.Omega.{arith}
 use lib.ListN.{length, getD, set, take, drop, length-drop, take-append-drop}
 use lib.Seq.{take-set-le, drop-set-add}
 use Rattle.broadword.specs.Bits.{count}
-use Rattle.broadword.specs.Places.{SelectInByte}
+use Rattle.broadword.specs.Places.{SelectInByte, Debruijn64}
 use Rattle.bit_words.specs.Vector.{bitOver}
 use Rattle.darray.specs.Positions.{positions}
 use Rattle.darray.specs.Index.{indexWords}
 use Rattle.darray.specs.Scan.{Ahead, Inside, Writable, lastInBlock}
-use Rattle.darray.specs.Pending.{Loaded, Rising, blockSpill, put, flushed, Flushable, Matches, lanesAt, overAt, blockEntry, blockLaneWord}
+use Rattle.darray.specs.Pending.{Loaded, Rising, blockSpill, put, flushed, Flushable, lanesAt, overAt, blockEntry, blockLaneWord}
 use Rattle.darray.specs.declared.scan.Cursor.{Cursor}
 use Rattle.darray.specs.declared.inner.Sizes.{Sizes}
 use Rattle.darray.proofs.Index as index
@@ -114,10 +114,10 @@ module _ (b : Bool) (ws : List ℕ) (len : ℕ) (l₀ : List ℕ) (at : ℕ) (s 
       pub first-there : 1024 * j < s .positions
       first-there = building.block-there b ws len s (length l₀ - at) w j h
 
-      pub load-ready : (t : List ℕ) → SelectInByte t → (length a ≡ 1024) × SelectInByte t × Ahead (bitOver b v) from (1024 * j) × Inside (bitOver b v) (length v) (lastInBlock (s .positions) j) × (1024 * j < s .positions)
-      load-ready t r =
-          subst⁻¹ (λ (y : List ℕ). (length a ≡ 1024) × SelectInByte t × Ahead (bitOver b y) from (1024 * j) × Inside (bitOver b y) (length y) (lastInBlock (s .positions) j) × (1024 * j < s .positions)) ev
-          (x .long, r, x .ahead, building.inside b ws len s (length l₀ - at) w j (min 1024 (s .positions - 1024 * j)) h refl (1024 * j) refl, first-there)
+      pub load-ready : (t m : List ℕ) → SelectInByte t → Debruijn64 m → (length a ≡ 1024) × SelectInByte t × Debruijn64 m × Ahead (bitOver b v) from (1024 * j) × Inside (bitOver b v) (length v) (lastInBlock (s .positions) j) × (1024 * j < s .positions)
+      load-ready t m r d =
+          subst⁻¹ (λ (y : List ℕ). (length a ≡ 1024) × SelectInByte t × Debruijn64 m × Ahead (bitOver b y) from (1024 * j) × Inside (bitOver b y) (length y) (lastInBlock (s .positions) j) × (1024 * j < s .positions)) ev
+          (x .long, r, d, x .ahead, building.inside b ws len s (length l₀ - at) w j (min 1024 (s .positions - 1024 * j)) h refl (1024 * j) refl, first-there)
 
       module _ (z : ℕ) (ez : z ≡ min 1024 (s .positions - 1024 * j)) (a′ : List ℕ) (c : Cursor) (y : Loaded (bitOver b v) (s .positions) j a′ c) where
         loaded : Loaded (bitOver b ws) (s .positions) j a′ c
@@ -154,26 +154,3 @@ module _ (b : Bool) (ws : List ℕ) (len : ℕ) (l₀ : List ℕ) (at : ℕ) (s 
           written = building.written-next b ws len s (length l₀ - at) w j z h ez a′ shows (drop at l₀) (drop at l) (drop at l′) o k (length-drop at l₀) (x .written)
               (ap (drop at) d ∙ drop-flushed a′ z j (s .entries + 8 * j) o (s .entries + (s .lanes + 3) / 4 + o) at (lanesAt at s j) (overAt at s o) l lanes-is over-is) f;
         }
-
--- ---- words that are compared with the index, as if written: those before them are none
-
-module _ (b : Bool) (ws : List ℕ) (len : ℕ) (l : List ℕ) (s : Sizes) (w : Writable (positions b ws len) len (length ws) s (length l)) (a : List ℕ) (from : Cursor) (o j : ℕ) (x : Writing b ws len l 0 l a from o j) (h : j < s .entries) (z : ℕ) (ez : z ≡ min 1024 (s .positions - 1024 * j)) (a′ : List ℕ) (c : Cursor) (y : Loaded (bitOver b ws) (s .positions) j a′ c) where
-  stored : Shows (positions b ws len) j a′
-  stored = building.loaded-shows b ws len s (length l) w j z h ez a′ c y
-
-  pub block-matches : l ≡ indexWords (positions b ws len) → Matches a′ z (0 + j) (lanesAt 0 s j) o (overAt 0 s o) l
-  block-matches = building.index-matches b ws len s (length l) w j z h ez a′ stored o (x .written .spilled) l
-
-  pub matching-next : (k : ℕ) → Matches a′ z (0 + j) (lanesAt 0 s j) o (overAt 0 s o) l → k ≡ blockSpill a′ z → Writing b ws len l 0 l a′ c (o + k) (j + 1)
-  matching-next k m q = record {
-    same = refl;
-    below = refl;
-    long = y .sampled .long;
-    ahead = block.ahead-le _ _ _ _ (omega arith) (y .next);
-    written = record {
-      spilled = building.spilled-next b ws len s (length l) w j z h ez a′ stored o k (x .written .spilled) q;
-      long = refl;
-      holds = building.next-matches b ws len s (length l) w j z h ez a′ stored o (x .written .spilled) l m (x .written .holds);
-      past = λ i g. refl;
-    };
-  }

@@ -7,9 +7,13 @@ use Prim.Native.Nat.{ℕ, zero, suc, _+_, _-_, _*_, _/_, _%_, _^_, _≤_, _<_, m
 use lib.Dec.{leb, ltb}
 use lib.ListN.{length, getD, set}
 use Rattle.broadword.specs.Fields.{word}
-use Rattle.darray.specs.Scan.{Position, Ahead, lastInBlock}
+use Rattle.broadword.specs.Places.{SelectInByte, Debruijn64}
+use Rattle.darray.specs.Scan.{Position, Ahead, Inside, Hits, lastInBlock}
 use Rattle.darray.specs.declared.scan.Cursor.{Cursor}
+use Rattle.darray.specs.declared.scan.Hit.{Hit}
 use Rattle.darray.specs.declared.pending.Pending.{Pending}
+use Rattle.darray.specs.declared.pending.Compared.{Compared}
+use Rattle.darray.specs.declared.pending.Compared.the-variants as compared
 use Rattle.darray.specs.declared.inner.Sizes.{Sizes}
 
 -- the positions of a block that its words need: all of a wide one, else every 32nd
@@ -22,6 +26,16 @@ pub record Sampled (f : ℕ → ℕ) (k size : ℕ) (wide : Bool) (a : List ℕ)
   pub long : length a ≡ 1024
   pub stored : (i : ℕ) → i < size → Due wide i → Position f (k + i) (getD a i 0)
   pub last : Position f (k + (size - 1)) (getD a (size - 1) 0)
+
+-- what loading a block from its first position h on needs: its `size` positions from the number k on in m words, the tables, and room
+pub record Loadable (f : ℕ → ℕ) (m k size : ℕ) (h : Hit) (table lowest a : List ℕ) : Type 0 where
+  pub long : length a ≡ 1024
+  pub some : 0 < size
+  pub few : size ≤ 1024
+  pub rule : SelectInByte table
+  pub mapping : Debruijn64 lowest
+  pub hits : Hits f k h
+  pub inside : Inside f m (k + (size - 1))
 
 -- ---- a block of the n pending positions in a
 
@@ -93,3 +107,23 @@ pub record Matches (a : List ℕ) (n j lanesAt o overAt : ℕ) (l : List ℕ) : 
   pub entry : getD l j 0 ≡ blockEntry a n o
   pub lane-words : Reads l lanesAt (blockLaneWord a n) ((n + 127) / 128)
   pub spilled : Reads l overAt (λ i. getD a i 0) (blockSpill a n)
+
+-- a block of the n positions in a, with o overflow positions before it, and m words that are compared with the index of the sizes s
+pub record Comparing (a : List ℕ) (n : ℕ) (s : Sizes) (j o m : ℕ) : Type 0 where
+  pub some : 0 < n
+  pub few : n ≤ 1024
+  pub rising : Rising a n
+  pub entry-room : j < s .entries
+  pub lanes-room : 8 * j + (n + 127) / 128 ≤ (s .lanes + 3) / 4
+  pub lanes-fit : s .lanes + 3 < 2 ^ 64
+  pub spilled : o ≤ s .overflow
+  pub long : s .entries + (s .lanes + 3) / 4 + s .overflow ≡ m
+
+-- its words are those of l, which has room for what it spills
+pub record SameWords (a : List ℕ) (n : ℕ) (s : Sizes) (j o : ℕ) (l : List ℕ) : Type 0 where
+  pub room : o + blockSpill a n ≤ s .overflow
+  pub matches : Matches a n (0 + j) (lanesAt 0 s j) o (overAt 0 s o) l
+
+abbrev pub Compares : List ℕ → ℕ → Sizes → ℕ → ℕ → List ℕ → Compared → Type 0
+Compares a n s j o l (compared.Same k) = (k ≡ blockSpill a n) × SameWords a n s j o l
+Compares a n s j o l compared.Other = SameWords a n s j o l → ⊥

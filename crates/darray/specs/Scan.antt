@@ -2,14 +2,17 @@
 -- that of the ones or the zeros of a bit vector's words. Assumes nothing.
 use mathlib.Core.Path.{_≡_}
 use mathlib.Core.List.{List}
-use Prim.Native.Nat.{ℕ, _+_, _-_, _*_, _^_, _≤_, _<_, min}
-use lib.ListN.{length}
-use Rattle.bit_words.specs.Vector.{wordsFor}
-use Rattle.broadword.specs.Bits.{count}
+use mathlib.Core.Bool.{Bool}
+use Prim.Native.Nat.{ℕ, _+_, _-_, _*_, _/_, _^_, _≤_, _<_, min}
+use lib.ListN.{length, getD}
+use Rattle.bit_words.specs.Vector.{wordsFor, bitOver, wordOver}
+use Rattle.broadword.specs.Bits.{count, ones}
 use Rattle.darray.specs.declared.scan.Cursor.{Cursor}
 use Rattle.darray.specs.declared.scan.Hit.{Hit}
 use Rattle.darray.specs.declared.scan.Span.{Span}
+use Rattle.darray.specs.declared.scan.Full.{Full}
 use Rattle.darray.specs.declared.inner.Sizes.{Sizes}
+use Rattle.darray.specs.Positions.{positions}
 use Rattle.darray.specs.Index.{blocks, lanes, before, indexWords}
 
 -- i is the position of f with the number k
@@ -29,6 +32,18 @@ pub record Inside (f : ℕ → ℕ) (m k : ℕ) : Type 0 where
   pub few : bits ≤ 2 ^ 63
   pub there : k < count f bits
 
+-- a cursor that may go as far as the word `end`, of m words
+pub record Ranging (c : Cursor) (end m : ℕ) : Type 0 where
+  pub upto : c .word ≤ end
+  pub room : end ≤ m
+
+-- from one cursor on, the word of the position with the number k is reached, or the word `end` before it
+pub record Reaches (b : Bool) (ws : List ℕ) (from : Cursor) (k end : ℕ) (c : Cursor) : Type 0 where
+  pub ahead : Ahead (bitOver b ws) c k
+  pub on : from .word ≤ c .word
+  pub upto : c .word ≤ end
+  pub here : c .word < end → k < c .before + ones (wordOver b (getD ws (c .word) 0)) 64
+
 -- the position with the number k, and a cursor at its word
 pub record Hits (f : ℕ → ℕ) (k : ℕ) (h : Hit) : Type 0 where
   pub position : Position f k (h .at)
@@ -45,6 +60,13 @@ pub record Spans (f : ℕ → ℕ) (n j : ℕ) (s : Span) : Type 0 where
   pub from : Ahead f (s .from) (1024 * j)
   pub next : Ahead f (s .next) (lastInBlock n j)
 
+-- some full blocks of the len bits, what they spill, a cursor that has not passed the next, and the count of the whole words
+pub record FullBlocks (b : Bool) (ws : List ℕ) (len : ℕ) (r : Full) : Type 0 where
+  pub spilled : r .overflow ≡ before (positions b ws len) (r .blocks)
+  pub ahead : Ahead (bitOver b ws) (r .from) (1024 * r .blocks)
+  pub counted : r .positions ≡ count (bitOver b ws) (len / 64 * 64)
+  pub there : 1024 * r .blocks ≤ r .positions
+
 -- the sizes of the index of P
 pub record Sized (P : List ℕ) (s : Sizes) : Type 0 where
   pub positions : s .positions ≡ length P
@@ -58,3 +80,12 @@ pub record Writable (P : List ℕ) (len m : ℕ) (s : Sizes) (k : ℕ) : Type 0 
   pub words : wordsFor len ≤ m
   pub few : len < 2 ^ 63
   pub room : length (indexWords P) ≤ k
+
+-- the sizes of an index over the len bits, and of words that it is compared with: as many overflow positions as these have room for
+pub record Comparable (b : Bool) (ws : List ℕ) (len : ℕ) (s : Sizes) (k : ℕ) : Type 0 where
+  pub words : wordsFor len ≤ length ws
+  pub few : len < 2 ^ 63
+  pub positions : s .positions ≡ count (bitOver b ws) len
+  pub entries : s .entries ≡ (s .positions + 1023) / 1024
+  pub lanes : s .lanes ≡ (s .positions + 31) / 32
+  pub long : s .entries + (s .lanes + 3) / 4 + s .overflow ≡ k

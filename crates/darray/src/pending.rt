@@ -1,28 +1,28 @@
 // The pending positions of a block: those that its words need are stored, and a flush writes them to the index and empties them.
 ghost use mathlib.Core.Path.{_≡_};
-ghost use mathlib.Core.Bool.{true, cond};
+ghost use mathlib.Core.Bool.{true, false, cond};
 ghost use Prim.Native.Nat.{ℕ, _+_, _-_, _*_, _/_, _^_, _≤_, _<_};
 ghost use lib.Dec.{leb};
 ghost use lib.ListN.{length, getD, replicate};
 ghost use Rattle.broadword.specs.Bits.{bit};
-ghost use Rattle.broadword.specs.Places.{select, SelectInByte};
+ghost use Rattle.broadword.specs.Places.{select, SelectInByte, Debruijn64};
 ghost use Rattle.bit_words.specs.Vector.{bitOver};
-ghost use Rattle.darray.specs.Scan.{Position, Ahead, Inside, lastInBlock};
-ghost use Rattle.darray.specs.Pending.{Sampled, Loaded, Rising, blockWide, blockSpill, blockLane, blockLaneWord, put, flushed, Flushable, lanesAt, overAt, emptied, Decides, Reads, Matches};
+ghost use Rattle.darray.specs.Scan.{Position, Ahead, Inside, Hits, lastInBlock};
+ghost use Rattle.darray.specs.Pending.{Sampled, Loadable, Loaded, Rising, blockWide, blockSpill, blockLane, blockLaneWord, put, flushed, Flushable, lanesAt, overAt, emptied, Decides, Reads, Matches, Comparing, Compares};
 use crate::inner::BLOCK_LEN;
 use crate::inner::SUBBLOCK_LEN;
 use crate::inner::Sizes;
 use crate::scan::Cursor;
-use crate::scan::Span;
+use crate::scan::Hit;
 use crate::scan::block_size;
 use crate::scan::cursor_at;
-use crate::scan::ends;
-use crate::scan::find;
+use crate::scan::find_near;
 use crate::scan::is_far;
 use crate::scan::is_wide;
 use bit_words::WORD_LEN;
 use bit_words::word_over;
-use broadword::bsf64;
+use broadword::Found;
+use broadword::lsb_by;
 
 // Positions, and how many of them are pending.
 pub struct Pending {
@@ -39,8 +39,16 @@ fn without_lowest(w: u64) -> u64
 }
 
 // Stores the `size` positions from the number k on, the first of which stands at `first`.
-fn fill(a: &mut [u64; 1024], words: &[u64], over_one: bool, first: usize, k: usize, size: usize)
-    requires { ⌜ ((length (now a) ≡ 1024) × (size ≤ 1024) × (0 < size) × Position (bitOver «over_one» (now words)) k first × Inside (bitOver «over_one» (now words)) (length (now words)) (k + (size - 1))) ⌝ }
+fn fill(
+    a: &mut [u64; 1024],
+    lowest: &[u8; 64],
+    words: &[u64],
+    over_one: bool,
+    first: usize,
+    k: usize,
+    size: usize,
+)
+    requires { ⌜ ((length (now a) ≡ 1024) × (size ≤ 1024) × (0 < size) × Position (bitOver «over_one» (now words)) k first × Inside (bitOver «over_one» (now words)) (length (now words)) (k + (size - 1)) × Debruijn64 (now lowest)) ⌝ }
     ensures { λ _. ⌜ Sampled (bitOver «over_one» (now (words .entry))) k size true (now (a .exit)) ⌝ }
 {
     let shift = first % WORD_LEN;
@@ -48,83 +56,120 @@ fn fill(a: &mut [u64; 1024], words: &[u64], over_one: bool, first: usize, k: usi
     let mut left = (word_over(words, word, over_one) >> shift) << shift;
     let mut c: usize = 0;
     while c < size {
-        if left == 0 {
-            word += 1;
-            left = word_over(words, word, over_one);
-        } else {
-            a[c] = (word * WORD_LEN + bsf64(left)) as u64;
-            left = without_lowest(left);
-            c += 1;
+        match lsb_by(lowest, left) {
+            Found::At(bit) => {
+                a[c] = (word * WORD_LEN + bit) as u64;
+                left = without_lowest(left);
+                c += 1;
+            }
+            Found::Nothing => {
+                word += 1;
+                left = word_over(words, word, over_one);
+            }
         }
     }
 }
 
-// From one position that a block's words need to the next: all of a wide one are needed, else every 32nd.
-fn stride(first: u64, last: u64) -> usize
-    requires { ⌜ first ≤ last ⌝ }
-    ensures { λ r. ⌜ r ≡ cond (leb 65536 (last - first)) 1 32 ⌝ }
-{
-    if is_wide(first, last) {
-        1
-    } else {
-        SUBBLOCK_LEN
-    }
-}
-
-// Stores those positions, and the last, of the `size` from the number k on, whose ends are e.
+// Stores every 32nd of the `size` positions from the number k on, and the last; a cursor at the word of the last comes back.
 fn sample(
     a: &mut [u64; 1024],
     table: &[u8; 2048],
     words: &[u64],
     over_one: bool,
-    e: Span,
+    from: Cursor,
     k: usize,
     size: usize,
-)
-    requires { ⌜ ((length (now a) ≡ 1024) × (0 < size) × (size ≤ 1024) × (e .first ≤ e .last) × SelectInByte (now table) × Ahead (bitOver «over_one» (now words)) (e .from) k × Position (bitOver «over_one» (now words)) (k + (size - 1)) (e .last) × Inside (bitOver «over_one» (now words)) (length (now words)) (k + (size - 1))) ⌝ }
-    ensures { λ _. ⌜ Sampled (bitOver «over_one» (now (words .entry))) k size (leb 65536 (e .last - e .first)) (now (a .exit)) ⌝ }
+) -> Cursor
+    requires { ⌜ ((length (now a) ≡ 1024) × (0 < size) × (size ≤ 1024) × SelectInByte (now table) × Ahead (bitOver «over_one» (now words)) from k × Inside (bitOver «over_one» (now words)) (length (now words)) (k + (size - 1))) ⌝ }
+    ensures { λ r. ⌜ (Sampled (bitOver «over_one» (now (words .entry))) k size false (now (a .exit)) × Ahead (bitOver «over_one» (now (words .entry))) r (k + (size - 1))) ⌝ }
 {
-    let step = stride(e.first, e.last);
-    let mut at = e.from;
+    let mut at = from;
     let mut i: usize = 0;
     while i < size {
-        let h = find(table, words, over_one, at, k + i);
+        let h = find_near(table, words, over_one, at, k + i);
         a[i] = h.at;
         let next = h.cursor;
         at = next;
-        i += step;
+        i += SUBBLOCK_LEN;
     }
     let last = size - 1;
-    a[last] = e.last;
+    let h = find_near(table, words, over_one, at, k + last);
+    a[last] = h.at;
+    let next = h.cursor;
+    next
 }
 
-// Stores the positions of a block of n that its words need; a cursor at the word of the last comes back. Where the block's end is far off, it
-// overflows, or nearly, and all its positions are stored one after the other.
+// Stores those positions of a block that its words need, where its end is near: every 32nd, and all of them if it overflows after all. Its first
+// position is h; a cursor at the word of the last comes back.
+fn load_near(
+    a: &mut [u64; 1024],
+    table: &[u8; 2048],
+    lowest: &[u8; 64],
+    words: &[u64],
+    over_one: bool,
+    h: Hit,
+    k: usize,
+    size: usize,
+) -> Cursor
+    requires { ⌜ Loadable (bitOver «over_one» (now words)) (length (now words)) k size h (now table) (now lowest) (now a) ⌝ }
+    ensures { λ r. ⌜ (Sampled (bitOver «over_one» (now (words .entry))) k size (blockWide (now (a .exit)) size) (now (a .exit)) × Ahead (bitOver «over_one» (now (words .entry))) r (k + (size - 1))) ⌝ }
+{
+    let from = h.cursor;
+    let next = sample(&mut *a, table, words, over_one, from, k, size);
+    if is_wide(a[0], a[size - 1]) {
+        fill(a, lowest, words, over_one, h.at as usize, k, size);
+    }
+    next
+}
+
+// The same wherever its end is: where that is far off, the block overflows, or nearly, and all its positions are stored one after the other.
+fn load_from(
+    a: &mut [u64; 1024],
+    table: &[u8; 2048],
+    lowest: &[u8; 64],
+    words: &[u64],
+    over_one: bool,
+    h: Hit,
+    k: usize,
+    size: usize,
+) -> Cursor
+    requires { ⌜ Loadable (bitOver «over_one» (now words)) (length (now words)) k size h (now table) (now lowest) (now a) ⌝ }
+    ensures { λ r. ⌜ (Sampled (bitOver «over_one» (now (words .entry))) k size (blockWide (now (a .exit)) size) (now (a .exit)) × Ahead (bitOver «over_one» (now (words .entry))) r (k + (size - 1))) ⌝ }
+{
+    let last = size - 1;
+    if is_far(words, over_one, h.cursor, k + last) {
+        fill(&mut *a, lowest, words, over_one, h.at as usize, k, size);
+        return cursor_at(words, over_one, k + last, a[last] as usize);
+    }
+    load_near(a, table, lowest, words, over_one, h, k, size)
+}
+
+// The same for the block with the number `block` of n positions.
 pub fn load(
     a: &mut [u64; 1024],
     table: &[u8; 2048],
+    lowest: &[u8; 64],
     words: &[u64],
     over_one: bool,
     n: usize,
     block: usize,
     from: Cursor,
 ) -> Cursor
-    requires { ⌜ ((length (now a) ≡ 1024) × SelectInByte (now table) × Ahead (bitOver «over_one» (now words)) from (1024 * block) × Inside (bitOver «over_one» (now words)) (length (now words)) (lastInBlock n block) × (1024 * block < n)) ⌝ }
+    requires { ⌜ ((length (now a) ≡ 1024) × SelectInByte (now table) × Debruijn64 (now lowest) × Ahead (bitOver «over_one» (now words)) from (1024 * block) × Inside (bitOver «over_one» (now words)) (length (now words)) (lastInBlock n block) × (1024 * block < n)) ⌝ }
     ensures { λ r. ⌜ Loaded (bitOver «over_one» (now (words .entry))) n block (now (a .exit)) r ⌝ }
 {
     let k = BLOCK_LEN * block;
-    let size = block_size(n, block);
-    let last = size - 1;
-    let h = find(table, words, over_one, from, k);
-    let at = h.cursor;
-    if is_far(words, over_one, at, k + last) {
-        fill(&mut *a, words, over_one, h.at as usize, k, size);
-        return cursor_at(words, over_one, k + last, a[last] as usize);
-    }
-    let e = ends(table, words, over_one, n, block, at);
-    sample(a, table, words, over_one, e, k, size);
-    let next = e.next;
-    next
+    let h = find_near(table, words, over_one, from, k);
+    load_from(
+        a,
+        table,
+        lowest,
+        words,
+        over_one,
+        h,
+        k,
+        block_size(n, block),
+    )
 }
 
 // None is pending.
@@ -267,7 +312,7 @@ fn positions_match(a: &[u64; 1024], n: usize, index: &[u64], at: usize) -> bool
 }
 
 // Whether the index has the words that a flush of the block would write.
-pub fn block_matches(
+fn block_matches(
     a: &[u64; 1024],
     n: usize,
     index: &[u64],
@@ -289,4 +334,33 @@ pub fn block_matches(
         return false;
     }
     positions_match(a, spill(a, n), index, over_start + over)
+}
+
+// Whether a block's words are those of the index.
+pub enum Compared {
+    // They are, and so many of its positions go to the overflow.
+    Same(usize),
+    Other,
+}
+
+// Compares the words of a block, with `over` overflow positions before it, with those of the index.
+pub fn compare(
+    a: &[u64; 1024],
+    n: usize,
+    index: &[u64],
+    s: Sizes,
+    block: usize,
+    over: usize,
+) -> Compared
+    requires { ⌜ Comparing (now a) n s block over (length (now index)) ⌝ }
+    ensures { λ r. ⌜ Compares (now (a .entry)) n s block over (now (index .entry)) r ⌝ }
+{
+    let more = spill(a, n);
+    if s.overflow - over < more {
+        return Compared::Other;
+    }
+    if block_matches(a, n, index, 0, s, block, over) {
+        return Compared::Same(more);
+    }
+    Compared::Other
 }

@@ -2,13 +2,14 @@
 // words between, and those between it and the last one found are not visited.
 ghost use mathlib.Core.Path.{_≡_};
 ghost use mathlib.Core.Bool.{cond};
-ghost use Prim.Native.Nat.{_+_, _-_, _*_, _/_, _≤_, _<_, min};
+ghost use Prim.Native.Nat.{_+_, _-_, _*_, _/_, _^_, _≤_, _<_, min};
 ghost use lib.Dec.{leb};
 ghost use lib.ListN.{length, getD};
 ghost use Rattle.broadword.specs.Bits.{count, ones};
 ghost use Rattle.broadword.specs.Places.{SelectInByte};
 ghost use Rattle.bit_words.specs.Vector.{wordsFor, bitOver, wordOver};
-ghost use Rattle.darray.specs.Scan.{Position, lastInBlock, Ahead, Inside, Hits, Spans};
+ghost use Rattle.darray.specs.Positions.{positions};
+ghost use Rattle.darray.specs.Scan.{Position, lastInBlock, Ahead, Inside, Ranging, Reaches, Hits, Spans, FullBlocks};
 use crate::inner::BLOCK_LEN;
 use crate::inner::MAX_IN_BLOCK_DISTANCE;
 use bit_words::WORD_LEN;
@@ -40,6 +41,27 @@ pub struct Span {
     pub next: Cursor,
 }
 
+// How many blocks are full, how many of their positions go to the overflow, a cursor that has not passed the next block, and how many positions
+// stand in the whole words.
+pub struct Full {
+    pub blocks: usize,
+    pub overflow: usize,
+    pub from: Cursor,
+    pub positions: usize,
+}
+
+// The positions in the used part of the last word, where it is not used whole.
+pub fn tail_positions(words: &[u64], len: usize, over_one: bool) -> usize
+    requires { ⌜ wordsFor len ≤ length (now words) ⌝ }
+    ensures { λ r. ⌜ count (bitOver «over_one» (now (words .entry))) (len / 64 * 64) + r ≡ count (bitOver «over_one» (now (words .entry))) len ⌝ }
+{
+    let left = len % WORD_LEN;
+    if left == 0 {
+        return 0;
+    }
+    popcount(word_over(words, len / WORD_LEN, over_one) % (1u64 << left))
+}
+
 // The number of positions: those of each whole word, and those of the used part of the last.
 pub fn count_positions(words: &[u64], len: usize, over_one: bool) -> usize
     requires { ⌜ wordsFor len ≤ length (now words) ⌝ }
@@ -52,11 +74,7 @@ pub fn count_positions(words: &[u64], len: usize, over_one: bool) -> usize
         n += popcount(word_over(words, i, over_one));
         i += 1;
     }
-    let left = len % WORD_LEN;
-    if left == 0 {
-        return n;
-    }
-    n + popcount(word_over(words, whole, over_one) % (1u64 << left))
+    n + tail_positions(words, len, over_one)
 }
 
 // The number of positions in the eight words from the word i on.
@@ -75,12 +93,12 @@ fn count_eight(words: &[u64], i: usize, over_one: bool) -> usize
 
 // A cursor less than eight words before the word of the position with the number k, or less than eight before the word `end`.
 fn leap(words: &[u64], over_one: bool, from: Cursor, k: usize, end: usize) -> Cursor
-    requires { ⌜ (Ahead (bitOver «over_one» (now words)) from k × Inside (bitOver «over_one» (now words)) (length (now words)) k × (end ≤ length (now words))) ⌝ }
-    ensures { λ r. ⌜ Ahead (bitOver «over_one» (now (words .entry))) r k ⌝ }
+    requires { ⌜ (Ahead (bitOver «over_one» (now words)) from k × Ranging from end (length (now words))) ⌝ }
+    ensures { λ r. ⌜ (Ahead (bitOver «over_one» (now (words .entry))) r k × (from .word ≤ r .word) × (r .word ≤ end)) ⌝ }
 {
     let mut word = from.word;
     let mut before = from.before;
-    while word + 8 <= end {
+    while 8 <= end - word {
         let n = count_eight(words, word, over_one);
         if k - before < n {
             break;
@@ -93,31 +111,64 @@ fn leap(words: &[u64], over_one: bool, from: Cursor, k: usize, end: usize) -> Cu
 
 // Whether the position with the number k lies `FAR` words past the cursor or farther. No answer is wrong: it only picks the faster way.
 pub fn is_far(words: &[u64], over_one: bool, from: Cursor, k: usize) -> bool
-    requires { ⌜ (Ahead (bitOver «over_one» (now words)) from k × Inside (bitOver «over_one» (now words)) (length (now words)) k) ⌝ }
+    requires { ⌜ (Ahead (bitOver «over_one» (now words)) from k × (from .word ≤ length (now words))) ⌝ }
 {
-    let end = from.word + FAR;
-    if words.len() < end {
+    let start = from.word;
+    if words.len() - start < FAR {
         return false;
     }
-    let near = leap(words, over_one, from, k, end);
-    near.word == end
+    let near = leap(words, over_one, from, k, start + FAR);
+    near.word == start + FAR
 }
 
-// A cursor at the word of the position with the number k.
-pub fn advance(words: &[u64], over_one: bool, from: Cursor, k: usize) -> Cursor
-    requires { ⌜ (Ahead (bitOver «over_one» (now words)) from k × Inside (bitOver «over_one» (now words)) (length (now words)) k) ⌝ }
-    ensures { λ r. ⌜ (Ahead (bitOver «over_one» (now (words .entry))) r k × (r .word < length (now (words .entry))) × (k < r .before + ones (wordOver «over_one» (getD (now (words .entry)) (r .word) 0)) 64)) ⌝ }
+// A cursor at the word of the position with the number k, or at the word `end` if that comes first. It goes word by word: for positions that are near.
+pub fn advance(words: &[u64], over_one: bool, from: Cursor, k: usize, end: usize) -> Cursor
+    requires { ⌜ (Ahead (bitOver «over_one» (now words)) from k × Ranging from end (length (now words))) ⌝ }
+    ensures { λ r. ⌜ Reaches «over_one» (now (words .entry)) from k end r ⌝ }
 {
-    let near = leap(words, over_one, from, k, words.len());
-    let mut word = near.word;
-    let mut before = near.before;
-    let mut n = popcount(word_over(words, word, over_one));
-    while n <= k - before {
+    let mut word = from.word;
+    let mut before = from.before;
+    while word < end {
+        let n = popcount(word_over(words, word, over_one));
+        if k - before < n {
+            break;
+        }
         before += n;
         word += 1;
-        n = popcount(word_over(words, word, over_one));
     }
     Cursor { word, before }
+}
+
+// The same, eight words at a time: for positions that are far.
+fn seek(words: &[u64], over_one: bool, from: Cursor, k: usize, end: usize) -> Cursor
+    requires { ⌜ (Ahead (bitOver «over_one» (now words)) from k × Ranging from end (length (now words))) ⌝ }
+    ensures { λ r. ⌜ Reaches «over_one» (now (words .entry)) from k end r ⌝ }
+{
+    advance(words, over_one, leap(words, over_one, from, k, end), k, end)
+}
+
+// The position with the number k, which stands in the cursor's word.
+pub fn place_at(table: &[u8; 2048], words: &[u64], over_one: bool, c: Cursor, k: usize) -> u64
+    requires { ⌜ (SelectInByte (now table) × Ahead (bitOver «over_one» (now words)) c k × (c .word < length (now words)) × (c .word * 64 ≤ 2 ^ 63) × (k < c .before + ones (wordOver «over_one» (getD (now words) (c .word) 0)) 64)) ⌝ }
+    ensures { λ r. ⌜ Position (bitOver «over_one» (now (words .entry))) k r ⌝ }
+{
+    let w = word_over(words, c.word, over_one);
+    match select_in_word_by(table, w, k - c.before) {
+        Found::At(s) => (c.word * WORD_LEN + s) as u64,
+        Found::Nothing => 0,
+    }
+}
+
+// The position with the number k, where it is near.
+pub fn find_near(table: &[u8; 2048], words: &[u64], over_one: bool, from: Cursor, k: usize) -> Hit
+    requires { ⌜ (SelectInByte (now table) × Ahead (bitOver «over_one» (now words)) from k × Inside (bitOver «over_one» (now words)) (length (now words)) k) ⌝ }
+    ensures { λ r. ⌜ Hits (bitOver «over_one» (now (words .entry))) k r ⌝ }
+{
+    let cursor = advance(words, over_one, from, k, words.len());
+    Hit {
+        at: place_at(table, words, over_one, cursor, k),
+        cursor,
+    }
 }
 
 // The position with the number k.
@@ -125,14 +176,10 @@ pub fn find(table: &[u8; 2048], words: &[u64], over_one: bool, from: Cursor, k: 
     requires { ⌜ (SelectInByte (now table) × Ahead (bitOver «over_one» (now words)) from k × Inside (bitOver «over_one» (now words)) (length (now words)) k) ⌝ }
     ensures { λ r. ⌜ Hits (bitOver «over_one» (now (words .entry))) k r ⌝ }
 {
-    let c = advance(words, over_one, from, k);
-    let w = word_over(words, c.word, over_one);
-    match select_in_word_by(table, w, k - c.before) {
-        Found::At(s) => Hit {
-            at: (c.word * WORD_LEN + s) as u64,
-            cursor: c,
-        },
-        Found::Nothing => Hit { at: 0, cursor: c },
+    let cursor = seek(words, over_one, from, k, words.len());
+    Hit {
+        at: place_at(table, words, over_one, cursor, k),
+        cursor,
     }
 }
 
@@ -196,5 +243,36 @@ pub fn ends(
         last: b.at,
         from,
         next,
+    }
+}
+
+// The full blocks that end in a whole word: their positions are counted while the ends of the blocks are searched.
+pub fn full_blocks(table: &[u8; 2048], words: &[u64], len: usize, over_one: bool) -> Full
+    requires { ⌜ (SelectInByte (now table) × (wordsFor len ≤ length (now words)) × (len < 2 ^ 63)) ⌝ }
+    ensures { λ r. ⌜ FullBlocks «over_one» (now (words .entry)) len r ⌝ }
+{
+    let end = len / WORD_LEN;
+    let mut overflow: usize = 0;
+    let mut from = Cursor { word: 0, before: 0 };
+    let mut j: usize = 0;
+    loop {
+        let k = BLOCK_LEN * j;
+        let first = seek(words, over_one, from, k, end);
+        let last = seek(words, over_one, first, k + (BLOCK_LEN - 1), end);
+        if last.word == end {
+            return Full {
+                blocks: j,
+                overflow,
+                from,
+                positions: last.before,
+            };
+        }
+        overflow += spilled(
+            place_at(table, words, over_one, first, k),
+            place_at(table, words, over_one, last, k + (BLOCK_LEN - 1)),
+            BLOCK_LEN,
+        );
+        from = last;
+        j += 1;
     }
 }

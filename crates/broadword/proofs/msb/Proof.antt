@@ -5,6 +5,7 @@ use Prim.Native.Nat.{ℕ, suc, _+_, _-_, _*_, _/_, _^_, _≤_, _<_}
 use native.Mathlib.Nat.{pos-of-ne-zero, pow-suc, add-zero, one-mul, div-eq-of-lt-le, lt-of-le-of-lt, lt-of-lt-of-le, lt-of-not-le, not-le-of-lt}
 use native.Mathlib.Numerals.{sub-one}
 use native.Mathlib.Omega.{arith}
+use borrow.Author.Needs.{needs}
 use lib.Pow.{pow-pos, pow-mono, ones-lt}
 use lib.Bits.{bitXor, xor-block, xor-self}
 use lib.Count.{leading-top}
@@ -47,13 +48,16 @@ returns c = sym (ap (λ (x : ℕ). last (bit x) 64) (c .if1 .taken) ∙ last-non
 at-else : (c : tie.Else1) → (t : ℕ) × (t < 64) × (bitXor (smear6 (c .before .args .x)) (smear6 (c .before .args .x) / 2) ≡ 2 ^ t) × (last (bit (c .before .args .x)) 64 ≡ At t)
 at-else c = high-place (c .before .args .x) (c .if1 .left) (c .before .fits .x .fits)
 
+debruijn64-table-requires : tie.Need-debruijn64-table-requires
+debruijn64-table-requires c κs = search needs
+
 bit-position-requires : tie.Need-bit-position-requires
 unfolding smear6
-bit-position-requires c κs = let s = at-else c in (s .0, s .1, s .2)
+bit-position-requires c κs = let s = at-else (c .before .before) in (c .before .debruijn64-table .ensures, (s .0, s .1, s .2))
 
 returns-2 : tie.Need-returns-2
 unfolding smear6
-returns-2 c = let s = at-else (c .before) in ap At (c .bit-position .ensures (s .0) (s .1) (s .2)) ∙ sym (s .3)
+returns-2 c = let s = at-else (c .before .before .before) in ap At (c .bit-position .ensures (s .0) (s .1) (s .2)) ∙ sym (s .3)
 
 pub msb-spec : {M : Type 1} → statement M
-msb-spec = tie.close (tie.spec returns bit-position-requires returns-2)
+msb-spec = tie.close (tie.spec returns debruijn64-table-requires bit-position-requires returns-2)

@@ -1,7 +1,7 @@
 -- `bit_vectors::unary::next` meets its contract.
 -- Assumes nothing.
 use borrow.Author.Needs.{needs}
-use mathlib.Core.Path.{sym, ap, _∙_, subst, subst⁻¹}
+use mathlib.Core.Path.{sym, ap, _∙_, subst⁻¹}
 use Prim.Native.Nat.{_-_}
 use native.Mathlib.Omega.{arith}
 use mathlib.Core.Bool.{true}
@@ -22,16 +22,32 @@ ended-requires : tie.Need-ended-requires
 ended-requires c κs = search needs
 
 returns-2 : tie.Need-returns-2
-returns-2 c = ap ofStepped (c .ended .ensures) ∙ steps.ended-is (c .before .before .before .before .before .args .words .now) (c .before .before .before .before .before .args .len) 1 (sym (c .before .before .before .is-invalid .ensures) ∙ c .before .before .if1 .left) ∙ sym (steps.end-is (c .before .before .before .before .before .args .words .now) (c .before .before .before .before .before .args .len) (c .before .before .before .before .before .args .w) true 1 0 (c .before .before .before .before .before .args .w .from) (sym (c .before .before .before .is-invalid .ensures) ∙ c .before .before .if1 .left) (c .before .if2 .taken) (omega arith))
+returns-2 c =
+    let s = c .before .before .before .before .before in
+    let ok = sym (c .before .before .before .is-invalid .ensures) ∙ c .before .before .if1 .left in
+    ap ofStepped (c .ended .ensures) ∙ steps.ended-is (s .args .words .now) (s .args .len) 1 ok
+    ∙ sym (steps.end-is (s .args .words .now) (s .args .len) (s .args .w) true 1 0 (s .args .w .from) ok (c .before .if2 .taken) (omega arith))
+
+debruijn64-table-requires : tie.Need-debruijn64-table-requires
+debruijn64-table-requires c κs = search needs
 
 walk-from-requires : tie.Need-walk-from-requires
-walk-from-requires c κs = let r = valid (c .before .before .before .before .args .words .now) (c .before .before .before .before .args .len) (sym (c .before .before .is-invalid .ensures) ∙ c .before .if1 .left) .room in omega arith
+walk-from-requires c κs =
+    let s = c .before .before .before .before .before in
+    let r = valid (s .args .words .now) (s .args .len) (sym (c .before .before .before .is-invalid .ensures) ∙ c .before .before .if1 .left) .room in
+    omega arith
 
 next-within-requires : tie.Need-next-within-requires
-next-within-requires c κs = subst⁻¹ (Walking (c .before .before .before .before .before .args .words .now) (c .before .before .before .before .before .args .len)) (c .walk-from .ensures) (steps.walking (c .before .before .before .before .before .args .words .now) (c .before .before .before .before .before .args .len) (c .before .before .before .before .before .args .w .from) (sym (c .before .before .before .is-invalid .ensures) ∙ c .before .before .if1 .left) (omega arith))
+next-within-requires c κs =
+    let s = c .before .before .before .before .before .before .before in
+    let ok = sym (c .before .before .before .before .before .is-invalid .ensures) ∙ c .before .before .before .before .if1 .left in
+    (subst⁻¹ (Walking (s .args .words .now) (s .args .len)) (c .before .walk-from .ensures) (steps.walking (s .args .words .now) (s .args .len) (s .args .w .from) ok (omega arith)), c .before .before .debruijn64-table .ensures)
 
 returns-3 : tie.Need-returns-3
-returns-3 c = c .next-within .ensures ∙ steps.by-from (c .before .before .before .before .before .before .args .words .now) (c .before .before .before .before .before .before .args .len) (c .before .walk-from .result) (c .before .before .before .before .before .before .args .w) true 1 0 (sym (c .before .before .before .before .is-invalid .ensures) ∙ c .before .before .before .if1 .left) (ap (λ (u : Unary). u .from) (c .before .walk-from .ensures))
+returns-3 c =
+    let s = c .before .before .before .before .before .before .before .before in
+    c .next-within .ensures
+    ∙ steps.by-from (s .args .words .now) (s .args .len) (c .before .before .walk-from .result) (s .args .w) true 1 0 (sym (c .before .before .before .before .before .before .is-invalid .ensures) ∙ c .before .before .before .before .before .if1 .left) (ap (λ (u : Unary). u .from) (c .before .before .walk-from .ensures))
 
 pub next-spec : {M : Type 1} → statement M
 next-spec =
@@ -41,6 +57,7 @@ next-spec =
     returns
     ended-requires
     returns-2
+    debruijn64-table-requires
     walk-from-requires
     next-within-requires
     returns-3)

@@ -7,7 +7,7 @@ use lib.ListN.{length}
 use Rattle.bit_words.proofs.Valid.{valid}
 use Rattle.darray.specs.Positions.{positions}
 use Rattle.darray.specs.Index.{indexWords}
-use Rattle.darray.proofs.Building as ofBuiltIndex
+use Rattle.darray.proofs.Building as building
 use Rattle.darray.proofs.Cases as cases
 use Rattle.darray.proofs.inner.build.Statement.{statement}
 use Rattle.darray.proofs.inner.build.Tie as tie
@@ -27,13 +27,13 @@ sizes-of-requires c κs = (valid _ _ (sym (c .before .before .is-invalid .ensure
 total-requires : tie.Need-total-requires
 total-requires c κs =
     let a = c .before .before .before .before .before .before .args in
-    ofBuiltIndex.sizes-lt (positions (a .over-one) (a .words .now) (a .len)) (c .sizes-of .result) (c .sizes-of .ensures) (ofBuiltIndex.positions-lt (a .over-one) (a .words .now) (a .len) (c .before .if2 .left))
+    building.sizes-lt (positions (a .over-one) (a .words .now) (a .len)) (c .sizes-of .result) (c .sizes-of .ensures) (building.positions-lt (a .over-one) (a .words .now) (a .len) (c .before .if2 .left))
 
 -- the number of words
 total : (c : tie.After-total) → c .total .result ≡ length (indexWords (positions (c .before .before .before .before .before .before .before .args .over-one) (c .before .before .before .before .before .before .before .args .words .now) (c .before .before .before .before .before .before .before .args .len)))
 total c =
     let a = c .before .before .before .before .before .before .before .args in
-    c .total .ensures ∙ ofBuiltIndex.index-length (positions (a .over-one) (a .words .now) (a .len)) (c .before .sizes-of .result) (c .before .sizes-of .ensures)
+    c .total .ensures ∙ building.index-length (positions (a .over-one) (a .words .now) (a .len)) (c .before .sizes-of .result) (c .before .sizes-of .ensures)
 
 returns-3 : tie.Need-returns-3
 returns-3 c =

@@ -1,14 +1,12 @@
 -- `darray::scan::count_positions` meets its contract: the invariant says that n is the count below the word i.
 -- Assumes nothing.
 use borrow.Author.Needs.{needs}
-use mathlib.Core.Path.{_≡_, refl, ap, ap₂, _∙_}
-use Prim.Native.Nat.{ℕ, _+_, _-_, _*_, _/_, _%_, _^_, _≤_, _<_}
+use mathlib.Core.Path.{_≡_, refl, ap, _∙_}
+use Prim.Native.Nat.{ℕ, _+_, _-_, _*_, _/_, _^_, _≤_, _<_}
 use native.Mathlib.Omega.{arith}
 use lib.ListN.{getD}
-use lib.Pow.{pow-pos}
 use Rattle.broadword.specs.Bits.{count, ones}
 use Rattle.bit_words.specs.Vector.{bitOver}
-use Rattle.bit_words.proofs.Packed.{one-shl}
 use Rattle.darray.proofs.Counts as scan
 use Rattle.darray.proofs.scan.count_positions.Statement.{statement}
 use Rattle.darray.proofs.scan.count_positions.Tie as tie
@@ -51,45 +49,24 @@ loop-less c = omega arith
 loop-again : tie.Need-loop-again Inv-loop μ-loop
 loop-again c = (omega arith, up c)
 
-returns : tie.Need-returns Inv-loop μ-loop
-returns c =
+tail-positions-requires : tie.Need-tail-positions-requires Inv-loop μ-loop
+tail-positions-requires c κs = omega arith
+
+all : (c : tie.After-tail-positions Inv-loop μ-loop)
+    → c .before .before .loop .n + c .tail-positions .result ≡ count (bitOver (c .before .before .before .before .args .over-one) (c .before .before .before .before .args .words .now)) (c .before .before .before .before .args .len)
+all c =
     let a = c .before .before .before .before .args in
-    let e : c .before .before .loop .i * 64 ≡ a .len = omega arith in
-    c .before .before .loop .inv .1 ∙ ap (count (bitOver (a .over-one) (a .words .now))) e
-
-word-over-requires-2 : tie.Need-word-over-requires-2 Inv-loop μ-loop
-word-over-requires-2 c κs = omega arith
-
-shl-popcount : tie.Need-shl-popcount Inv-loop μ-loop
-shl-popcount c = omega arith
-
-rem-popcount : tie.Need-rem-popcount Inv-loop μ-loop
-rem-popcount c =
-    let h = one-shl (c .before .before .before .before .before .args .len % 64) (omega arith) in
-    let p = pow-pos (c .before .before .before .before .before .args .len % 64) in
-    omega arith
-
-popcount-requires-2 : tie.Need-popcount-requires-2 Inv-loop μ-loop
-popcount-requires-2 c κs = search needs
-
-last : (c : tie.After-popcount2 Inv-loop μ-loop)
-    → c .before .before .before .before .loop .n + c .popcount2 .result ≡ count (bitOver (c .before .before .before .before .before .before .args .over-one) (c .before .before .before .before .before .before .args .words .now)) (c .before .before .before .before .before .before .args .len)
-last c =
-    let a = c .before .before .before .before .before .before .args in
-    let l = c .before .before .before .before .loop in
+    let l = c .before .before .loop in
     let e : l .i * 64 ≡ a .len / 64 * 64 = omega arith in
-    scan.count-part (a .over-one) (a .words .now) (λ i. c .before .before .before .before .before .shared-slice-known .given i .fits) (a .len) (l .n) (c .popcount2 .result)
-    (l .inv .1 ∙ ap (count (bitOver (a .over-one) (a .words .now))) e)
-    (c .popcount2 .ensures ∙ ap₂ (λ (w m : ℕ). ones (w % m) 64) (c .before .word-over2 .ensures) (one-shl (a .len % 64) (omega arith)))
+    ap (λ (x : ℕ). x + c .tail-positions .result) (l .inv .1 ∙ ap (count (bitOver (a .over-one) (a .words .now))) e) ∙ c .tail-positions .ensures
 
 add-result : tie.Need-add-result Inv-loop μ-loop
 add-result c =
-    let a = c .before .before .before .before .before .before .args in
-    omega (arith, last c, scan.count-few (a .over-one) (a .words .now) (a .len), c .before .before .before .before .before .before .fits)
+    let a = c .before .before .before .before .args in
+    omega (arith, all c, scan.count-few (a .over-one) (a .words .now) (a .len), c .before .before .before .before .fits)
 
-returns-2 : tie.Need-returns-2 Inv-loop μ-loop
-returns-2 c =
-    last c
+returns : tie.Need-returns Inv-loop μ-loop
+returns c = all c
 
 pub count-positions-spec : {M : Type 1} → statement M
 count-positions-spec =
@@ -104,10 +81,6 @@ count-positions-spec =
     add-i
     loop-less
     loop-again
-    returns
-    word-over-requires-2
-    shl-popcount
-    rem-popcount
-    popcount-requires-2
+    tail-positions-requires
     add-result
-    returns-2)
+    returns)
