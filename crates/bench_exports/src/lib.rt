@@ -5,7 +5,7 @@
 // compares with those of the Rust. A none counts as 64 for a place in a word, and as the length for a place in a bit vector.
 ghost use Prim.Native.Nat.{ℕ};
 ghost use mathlib.Core.List.{List};
-ghost use Rattle.broadword.specs.Places.{SelectInByte};
+ghost use Rattle.broadword.specs.Places.{SelectInByte, Debruijn64};
 ghost use Rattle.bit_vectors.specs.Walk.{Walking};
 ghost use Rattle.darray.specs.Select.{Indexed};
 
@@ -20,6 +20,7 @@ use bit_vectors::unary::Unary;
 use bit_vectors::unary::new;
 use bit_vectors::unary::next_within;
 use broadword::Found;
+use broadword::debruijn64_table;
 use broadword::lsb;
 use broadword::msb;
 use broadword::popcount;
@@ -154,13 +155,13 @@ pub extern "C" fn bench_select1(words: &[u64], len: usize, ks: &[usize]) -> u64 
 }
 
 // The sum of all places that the walk gives.
-fn walk(words: &[u64], len: usize, start: Unary) -> u64
-    requires { ⌜ Walking (now words) len start ⌝ }
+fn walk(words: &[u64], len: usize, start: Unary, table: &[u8; 64]) -> u64
+    requires { ⌜ (Walking (now words) len start × Debruijn64 (now table)) ⌝ }
 {
     let mut w = start;
     let mut sum: u64 = 0;
     loop {
-        let s = next_within(words, len, w);
+        let s = next_within(words, len, w, table);
         let place = s.place;
         let Place::At(p) = place else {
             break;
@@ -172,13 +173,14 @@ fn walk(words: &[u64], len: usize, start: Unary) -> u64
     sum
 }
 
-// A walk over all ones.
+// A walk over all ones. The table is made once and lent.
 #[no_mangle]
 pub extern "C" fn bench_walk(words: &[u64], len: usize) -> u64 {
     let Started::Walk(w) = new(words, len, 0) else {
         return 0;
     };
-    walk(words, len, w)
+    let table = debruijn64_table();
+    walk(words, len, w, &table)
 }
 
 // The index over the ones or the zeros: how many words it has.

@@ -148,10 +148,6 @@ pub length-overwrite : (ws : List ℕ) (p width x : ℕ) → length (overwrite w
 unfolding overwrite over
 length-overwrite ws p width x = length-numberWords (length ws) (over (number ws) p width x)
 
-pub fit-overwrite : (ws : List ℕ) (p width x : ℕ) → Fit (overwrite ws p width x)
-unfolding overwrite over
-fit-overwrite ws p width x = fit-numberWords (length ws) (over (number ws) p width x)
-
 -- in the words after A
 pub over-right : (A B : List ℕ) (p width x : ℕ) → Fit A → overwrite (A ++ B) (64 * length A + p) width x ≡ A ++ overwrite B p width x
 unfolding overwrite over

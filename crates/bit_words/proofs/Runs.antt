@@ -115,9 +115,6 @@ module _ (b : Bool) (ws : List ℕ) (fit : Fit ws) where
   pub left-lt : (i left x : ℕ) → x ≡ wordOver b (getD ws i 0) → count (bitOver b ws) (i * 64) + left < count (bitOver b ws) ((i + 1) * 64) → left < ones x 64
   left-lt i left x ex h = let t = turn i x (ones x 64) ex refl in omega arith
 
-  pub over-le : (n : ℕ) → count (bitOver b ws) n ≤ n
-  over-le n = count-le (bitOver b ws) n (bitOver-le b ws)
-
 -- ---- a rank: whole words, and the low bits of one
 
 -- a bit below those of a number shifted up

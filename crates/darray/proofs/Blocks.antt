@@ -36,9 +36,6 @@ position-le f j k x y p q h = by (decLe x y)
     by (yes l) = l
     by (no l) = absurd (omega (arith, count-mono f (suc y) x (lt-of-not-le l), p .before, q .before, q .one))
 
-pub position-same : (f : ℕ → ℕ) (k x y : ℕ) → Position f k x → Position f k y → x ≡ y
-position-same f k x y p q = omega (arith, position-le f k k x y p q (le-refl k), position-le f k k y x q p (le-refl k))
-
 module _ (b : Bool) (ws : List ℕ) (len n : ℕ) (e : n ≡ count (bitOver b ws) len) where
   pub length-is : n ≡ length (positions b ws len)
   length-is = e ∙ sym (places.length-places (bitOver b ws) (bitOver-le b ws) len)

@@ -204,10 +204,6 @@ module _ (P : List ℕ) (r : Rising P) where
       by-there (yes h) = by-wide (wide P (i / 32)) refl h
       by-there (no g) = omega (arith, lane-none P i (omega arith))
 
-  pub laneWord-lt : (t : ℕ) → laneWord P t < 2 ^ 64
-  unfolding laneWord
-  laneWord-lt t = word-lt 16 (λ i. lane P (4 * t + i)) 4 (λ i _. lane-lt (4 * t + i))
-
   -- the lane i of the word t, as a program takes it
   pub lane-read : (t i : ℕ) → i < 4 → bitAnd (laneWord P t / 2 ^ (16 * i)) 0xffff ≡ lane P (4 * t + i)
   unfolding laneWord

@@ -53,9 +53,3 @@ module _ (b : Bool) (ws : List ℕ) (len : ℕ) (s : Sizes) (e : ofMeasured (mea
       let q = e ∙ cases.measure-sizes ws len b (measured-valid .0) (measured-valid .1) in
       let o : s .overflow ≡ length (overflow P (blocks P)) = cc in
       record { positions = cc; entries = cc; lanes = cc; overflow = o ∙ index.length-overflow P (blocks P) }
-
-  pub measured-length : s .entries + (s .lanes + 3) / 4 + s .overflow ≡ length (indexWords (positions b ws len))
-  measured-length = building.index-length (positions b ws len) s measured-sized
-
-  pub measured-writable : (k : ℕ) → length (indexWords (positions b ws len)) ≤ k → Writable (positions b ws len) len (length ws) s k
-  measured-writable k h = record { sized = measured-sized; words = valid ws len (measured-valid .0) .room; few = measured-valid .1; room = h }
