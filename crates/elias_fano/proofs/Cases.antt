@@ -1,6 +1,6 @@
--- The cases of each call's definition, one law to a case: the code's proofs cite them at each `return`, and the model's proof cites them again.
--- Assumes nothing.
-use mathlib.Core.Path.{_≡_}
+-- The tests of each call, one law to a case, and what a call leaves where they refuse and where they are done: the code's proofs cite them at
+-- each `return`, and the model's proof cites them again. Assumes nothing.
+use mathlib.Core.Path.{_≡_, ap, _∙_}
 use mathlib.Core.List.{List, _++_}
 use mathlib.Core.Bool.{Bool, true, false, _&&_, cond}
 use Prim.Native.Nat.{ℕ, _+_, _≤_, _<_}
@@ -8,31 +8,49 @@ use native.Mathlib.Omega.{arith}
 use borrow.Author.Tests.{le-ltb, lt-ltb, le-leb, lt-leb, eq-eqb, ne-eqb, leb-true}
 use lib.Dec.{eqb, leb, ltb}
 use lib.ListN.{length, drop, replicate}
-use Rattle.errors.specs.Answer.{value, done, refused}
+use Rattle.errors.specs.Answer.{Answer, value, done, refused}
 use Rattle.elias_fano_words.specs.Sizes.{startLen}
 use Rattle.elias_fano_words.proofs.Rising.{and-true}
 use Rattle.elias_fano.specs.declared.builder.Builder.{Builder}
-use Rattle.elias_fano.specs.Made.{made, builder, nobody}
-use Rattle.elias_fano.specs.Steps.{newOf, sound, filed, pushOf, intact, imageOf, buildOf}
+use Rattle.elias_fano.specs.Made.{Made, made, builder, nobody}
+use Rattle.elias_fano.specs.Steps.{tested, newTest, newOf, sound, builderTest, timeTest, filed, pushTest, pushOf, intact, imageOf, imageTest, buildTest, finishedWords, buildOf}
+
+-- ---- any call
+
+module _ (a : Answer) (b : Builder) (w : List ℕ) (m : Made) where
+  tested-refused : (k : ℕ) → a ≡ refused k → tested a b w m ≡ made (refused k) b w
+  tested-refused k e = ap (λ (x : Answer). tested x b w m) e
+
+  tested-done : a ≡ done → tested a b w m ≡ m
+  tested-done e = ap (λ (x : Answer). tested x b w m) e
 
 -- ---- new
 
-module _ (u n : ℕ) (w : List ℕ) where
-  pub new-1 : n ≡ 0 → newOf u n w ≡ made (refused 1) nobody w
-  unfolding newOf
+module _ (u n k : ℕ) where
+  pub new-1 : n ≡ 0 → newTest u n k ≡ refused 1
+  unfolding newTest
   new-1 h = simp (eq-eqb _ _ h)
 
-  pub new-2 : 16777216 < n → newOf u n w ≡ made (refused 2) nobody w
-  unfolding newOf
+  pub new-2 : 16777216 < n → newTest u n k ≡ refused 2
+  unfolding newTest
   new-2 h = simp (ne-eqb n 0 (λ (e : n ≡ 0). omega arith), lt-ltb _ _ h)
 
-  pub new-3 : (n ≡ 0 → ⊥) → n ≤ 16777216 → length w < startLen u n → newOf u n w ≡ made (refused 3) nobody w
-  unfolding newOf
+  pub new-3 : (n ≡ 0 → ⊥) → n ≤ 16777216 → k < startLen u n → newTest u n k ≡ refused 3
+  unfolding newTest
   new-3 h i j = simp (ne-eqb _ _ h, le-ltb _ _ i, lt-ltb _ _ j)
 
-  pub new-done : (n ≡ 0 → ⊥) → n ≤ 16777216 → startLen u n ≤ length w → newOf u n w ≡ made done (builder u n 0 0) (replicate (startLen u n) 0 ++ drop (startLen u n) w)
+  pub new-passed : (n ≡ 0 → ⊥) → n ≤ 16777216 → startLen u n ≤ k → newTest u n k ≡ done
+  unfolding newTest
+  new-passed h i j = simp (ne-eqb _ _ h, le-ltb _ _ i, le-ltb _ _ j)
+
+module _ (u n : ℕ) (w : List ℕ) where
+  pub new-refused : (k : ℕ) → newTest u n (length w) ≡ refused k → newOf u n w ≡ made (refused k) nobody w
   unfolding newOf
-  new-done h i j = simp (ne-eqb _ _ h, le-ltb _ _ i, le-ltb _ _ j)
+  new-refused k e = tested-refused _ _ _ _ k e
+
+  pub new-done : newTest u n (length w) ≡ done → newOf u n w ≡ made done (builder u n 0 0) (replicate (startLen u n) 0 ++ drop (startLen u n) w)
+  unfolding newOf
+  new-done e = tested-done _ nobody w _ e
 
 -- ---- the builder's numbers
 
@@ -78,60 +96,69 @@ is-sound b h =
       few = leb-true (b .«num_pushed») (b .«num_vals») (p₂ .0);
     }
 
+-- ---- the tests that a push and a build begin with
+
+module _ (b : Builder) (k : ℕ) (others : Answer) where
+  pub builder-7 : sound b ≡ false → builderTest b k others ≡ refused 7
+  unfolding builderTest
+  builder-7 h = simp h
+
+  pub builder-3 : sound b ≡ true → k < startLen (b .universe) (b .«num_vals») → builderTest b k others ≡ refused 3
+  unfolding builderTest
+  builder-3 g h = simp (g, lt-ltb _ _ h)
+
+  pub builder-passed : sound b ≡ true → startLen (b .universe) (b .«num_vals») ≤ k → builderTest b k others ≡ others
+  unfolding builderTest
+  builder-passed g h = simp (g, le-ltb _ _ h)
+
 -- ---- push
 
+module _ (b : Builder) (t : ℕ) where
+  pub time-4 : t < b .last → timeTest b t ≡ refused 4
+  unfolding timeTest
+  time-4 i = simp (lt-ltb _ _ i)
+
+  pub time-5 : b .last ≤ t → b .universe ≤ t → timeTest b t ≡ refused 5
+  unfolding timeTest
+  time-5 i j = simp (le-ltb _ _ i, le-leb _ _ j)
+
+  pub time-6 : b .last ≤ t → t < b .universe → b .«num_pushed» ≡ b .«num_vals» → timeTest b t ≡ refused 6
+  unfolding timeTest
+  time-6 i j k = simp (le-ltb _ _ i, lt-leb _ _ j, eq-eqb _ _ k)
+
+  pub time-passed : b .last ≤ t → t < b .universe → (b .«num_pushed» ≡ b .«num_vals» → ⊥) → timeTest b t ≡ done
+  unfolding timeTest
+  time-passed i j k = simp (le-ltb _ _ i, lt-leb _ _ j, ne-eqb _ _ k)
+
 module _ (b : Builder) (t : ℕ) (w : List ℕ) where
-  abbrev size : ℕ
-  size = startLen (b .universe) (b .«num_vals»)
-
-  pub push-7 : sound b ≡ false → pushOf b t w ≡ made (refused 7) b w
+  pub push-refused : (k : ℕ) → pushTest b t (length w) ≡ refused k → pushOf b t w ≡ made (refused k) b w
   unfolding pushOf
-  push-7 h = simp h
+  push-refused k e = tested-refused _ _ _ _ k e
 
-  pub push-3 : sound b ≡ true → length w < size → pushOf b t w ≡ made (refused 3) b w
-  unfolding pushOf
-  push-3 g h = simp (g, lt-ltb _ _ h)
-
-  pub push-4 : sound b ≡ true → size ≤ length w → t < b .last → pushOf b t w ≡ made (refused 4) b w
-  unfolding pushOf
-  push-4 g h i = simp (g, le-ltb _ _ h, lt-ltb _ _ i)
-
-  pub push-5 : sound b ≡ true → size ≤ length w → b .last ≤ t → b .universe ≤ t → pushOf b t w ≡ made (refused 5) b w
-  unfolding pushOf
-  push-5 g h i j = simp (g, le-ltb _ _ h, le-ltb _ _ i, le-leb _ _ j)
-
-  pub push-6 : sound b ≡ true → size ≤ length w → b .last ≤ t → t < b .universe → b .«num_pushed» ≡ b .«num_vals» → pushOf b t w ≡ made (refused 6) b w
-  unfolding pushOf
-  push-6 g h i j k = simp (g, le-ltb _ _ h, le-ltb _ _ i, lt-leb _ _ j, eq-eqb _ _ k)
-
-  pub push-done : sound b ≡ true → size ≤ length w → b .last ≤ t → t < b .universe → (b .«num_pushed» ≡ b .«num_vals» → ⊥)
+  pub push-done : pushTest b t (length w) ≡ done
       → pushOf b t w ≡ made done (builder (b .universe) (b .«num_vals») (b .«num_pushed» + 1) t) (filed (b .universe) (b .«num_vals») (b .«num_pushed») t w)
   unfolding pushOf
-  push-done g h i j k = simp (g, le-ltb _ _ h, le-ltb _ _ i, lt-leb _ _ j, ne-eqb _ _ k)
+  push-done e = tested-done _ b w _ e
 
 -- ---- build
 
 module _ (b : Builder) (c : Bool) (w : List ℕ) where
-  abbrev start : ℕ
-  start = startLen (b .universe) (b .«num_vals»)
+  pub image-7 : intact b w ≡ false → imageTest b c w ≡ refused 7
+  unfolding imageTest
+  image-7 i = simp i
 
-  pub build-7 : sound b ≡ false → buildOf b c w ≡ made (refused 7) b w
-  unfolding buildOf
-  build-7 h = simp h
+  pub image-3 : intact b w ≡ true → length w < length (imageOf b c w) → imageTest b c w ≡ refused 3
+  unfolding imageTest
+  image-3 i j = simp (i, lt-ltb _ _ j)
 
-  pub build-3 : sound b ≡ true → length w < start → buildOf b c w ≡ made (refused 3) b w
-  unfolding buildOf
-  build-3 g h = simp (g, lt-ltb _ _ h)
+  pub image-passed : intact b w ≡ true → length (imageOf b c w) ≤ length w → imageTest b c w ≡ done
+  unfolding imageTest
+  image-passed i j = simp (i, le-ltb _ _ j)
 
-  pub build-7-bits : sound b ≡ true → start ≤ length w → intact b w ≡ false → buildOf b c w ≡ made (refused 7) b w
+  pub build-refused : (k : ℕ) → buildTest b c w ≡ refused k → buildOf b c w ≡ made (refused k) b w
   unfolding buildOf
-  build-7-bits g h i = simp (g, le-ltb _ _ h, i)
+  build-refused k e = tested-refused _ _ _ _ k e
 
-  pub build-3-image : sound b ≡ true → start ≤ length w → intact b w ≡ true → length w < length (imageOf b c w) → buildOf b c w ≡ made (refused 3) b w
+  pub build-done : buildTest b c w ≡ done → buildOf b c w ≡ made (value (length (imageOf b c w))) b (finishedWords b c w)
   unfolding buildOf
-  build-3-image g h i j = simp (g, le-ltb _ _ h, i, lt-ltb _ _ j)
-
-  pub build-done : sound b ≡ true → start ≤ length w → intact b w ≡ true → length (imageOf b c w) ≤ length w
-      → buildOf b c w ≡ made (value (length (imageOf b c w))) b (imageOf b c w ++ drop (length (imageOf b c w)) w)
-  unfolding buildOf
-  build-done g h i j = simp (g, le-ltb _ _ h, i, le-ltb _ _ j)
+  build-done e = tested-done _ b w _ e

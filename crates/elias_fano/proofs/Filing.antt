@@ -5,20 +5,16 @@ use mathlib.Core.Bool.{true}
 use Prim.Native.Nat.{ℕ, zero, suc, _+_, _*_, _/_, _%_, _^_, _≤_, _<_}
 use native.Mathlib.Nat.{lt-of-lt-of-le, le-of-lt, mod-lt, mul-le-mul, le-refl, one-mul}
 use native.Mathlib.Omega.{arith}
-use mir.Syntax.{w64}
-use mir.Val.{Fits}
 use lib.ListN.{length, length-append}
 use lib.Pow.{pow-pos, pow-mono, shr-mono}
 use Rattle.bit_words.specs.Vector.{wordsFor, numberWords, overwrite}
 use Rattle.bit_words.proofs.Overwrite.{length-numberWords, fit-numberWords, over-right, over-left, over-number}
 use Rattle.bit_words.proofs.Runs.{Fit}
-use Rattle.elias_fano_words.specs.Sizes.{lowLen, highLen, startLen}
+use Rattle.elias_fano_words.specs.Sizes.{lowLen, highLen}
 use Rattle.elias_fano_words.specs.Image.{highFrom, lowNumber, highWords}
 use Rattle.elias_fano_words.specs.Times.{rising, lastOf, bitWords}
-use Rattle.elias_fano_words.proofs.Bounds.{low-lt}
 use Rattle.elias_fano_words.proofs.Encode as encode
 use Rattle.elias_fano.specs.Steps.{filed}
-use Rattle.elias_fano.proofs.Limits as limits
 
 pub fit-append : (A B : List ℕ) → Fit A → Fit B → Fit (A ++ B)
 fit-append [] B a b i = b i
@@ -104,53 +100,3 @@ module _ (u n : ℕ) where
         ∙ ap (λ (r : List ℕ). (A ++ h′) ++ r) (over-left L D (m * l) l x (fit-numberWords lw (lowNumber l T)) fd (subst (λ (k : ℕ). m * l + l ≤ 64 * k) (sym (length-numberWords lw (lowNumber l T))) low-fits) (mod-lt t (pow-pos l)) ∙ ap (λ (r : List ℕ). r ++ D) low-next)
         ∙ append-assoc A h′ (L′ ++ D) ∙ ap (λ (r : List ℕ). A ++ r) (sym (append-assoc h′ L′ D)) in
         ap (λ (r : List ℕ). overwrite r (64 * (6 + hw) + m * l) l x) one ∙ two
-
--- ---- the places that a program computes, for l and h that are the low and the high length
-
-module _ (u n m t : ℕ) (hu : u < 2 ^ 64) (below : t < u) (few : m < n) (most : n ≤ 16777216) (low : ℕ) (e : low ≡ lowLen u n) where
-  positive : 0 < n
-  positive = omega arith
-
-  pub low-small : low < 64
-  low-small = subst (λ (y : ℕ). y < 64) (sym e) (low-lt u n hu positive)
-
-  pub place-small : t / 2 ^ low + m < highLen u n
-  place-small = subst (λ (y : ℕ). t / 2 ^ y + m < highLen u n) (sym e) (place-lt u n t m below few)
-
-  high-small : highLen u n ≤ 50331649
-  high-small = limits.high-small u n m hu positive most (le-of-lt few)
-
-  pub place-fits : Fits w64 (t / 2 ^ low + m)
-  place-fits = record { fits = let a = place-small in let b = high-small in omega arith }
-
-  pub high-place-fits : Fits w64 (64 * 6 + (t / 2 ^ low + m))
-  high-place-fits = record { fits = let a = place-small in let b = high-small in omega arith }
-
-  product-small : m * low ≤ 16777216 * 63
-  product-small = subst (λ (y : ℕ). m * y ≤ 16777216 * 63) (sym e) (limits.product-small u n m hu positive most (le-of-lt few))
-
-  pub product-fits : Fits w64 (m * low)
-  product-fits = record { fits = let a = product-small in omega arith }
-
-  module _ (w : ℕ) (ew : w ≡ wordsFor (highLen u n)) where
-    pub low-words-fit : Fits w64 (64 * (6 + w))
-    low-words-fit = record { fits = let a = high-small in omega arith }
-
-    pub low-place-fits : Fits w64 (64 * (6 + w) + m * low)
-    low-place-fits = record { fits = let a = high-small in let b = product-small in omega arith }
-
-  module _ (N : ℕ) (long : startLen u n ≤ N) where
-    pub high-word : (64 * 6 + (t / 2 ^ low + m)) / 64 < N
-    unfolding startLen
-    high-word = let a = place-small in omega arith
-
-    pub low-places : (w : ℕ) → w ≡ wordsFor (highLen u n) → 64 * (6 + w) + m * low + low ≤ 64 * N
-    unfolding startLen
-    low-places w ew = let a : m * low + low ≤ n * lowLen u n = subst (λ (y : ℕ). m * y + y ≤ n * lowLen u n) (sym e) (low-room u n m few) in omega arith
-
-pub filed-is : (u n m t : ℕ) (w : List ℕ) (low h x : ℕ) → low ≡ lowLen u n → h ≡ wordsFor (highLen u n) → x ≡ t % 2 ^ low
-    → overwrite (overwrite w (64 * 6 + (t / 2 ^ low + m)) 1 1) (64 * (6 + h) + m * low) low x ≡ filed u n m t w
-unfolding filed
-filed-is u n m t w low h x el eh ex =
-    ap₂ (λ (a b : ℕ). overwrite (overwrite w (64 * 6 + (t / 2 ^ low + m)) 1 1) (64 * (6 + a) + m * low) low b) eh ex
-    ∙ ap (λ (l : ℕ). overwrite (overwrite w (64 * 6 + (t / 2 ^ l + m)) 1 1) (64 * (6 + wordsFor (highLen u n)) + m * l) l (t % 2 ^ l)) el

@@ -24,8 +24,12 @@ use Rattle.elias_fano_words.specs.Times.{rising, bitWords, timesIn, holds}
 use Rattle.elias_fano_words.proofs.Decode.{length-high}
 use Rattle.elias_fano_words.proofs.Holds.{fit-held, length-held}
 use Rattle.elias_fano_words.proofs.Valid.{valid-high}
-use Rattle.elias_fano.specs.Finishing.{Measurable, zerosOf, onesWords, zerosWords, Planned, startWords, Holding, Finishable, imageIn, finishedWords}
+use Rattle.elias_fano_words.proofs.Rising.{and-true}
+use Rattle.elias_fano.specs.Finishing.{Measurable, zerosOf, onesWords, zerosWords, Planned, Holding, Finishable}
+use Rattle.elias_fano.specs.Steps.{heldWords, heldTimes, intact, imageOf, finishedWords}
+use Rattle.elias_fano.specs.declared.builder.Builder.{Builder}
 use Rattle.elias_fano.specs.declared.finish.Plan.{Plan}
+use Rattle.elias_fano.proofs.Cases as cases
 use Rattle.elias_fano.proofs.Limits as limits
 
 -- the first words of a number
@@ -45,7 +49,19 @@ unfolding indexWords table blocks lanes laneWords overflow
 cond-words true P = refl
 cond-words false P = refl
 
-module _ (u n m : ℕ) (w : List ℕ) (f : Holding u n m w) where
+module _ (b : Builder) (w : List ℕ) (f : Holding b w) where
+  abbrev u : ℕ
+  u = b .universe
+
+  abbrev n : ℕ
+  n = b .«num_vals»
+
+  abbrev m : ℕ
+  m = b .«num_pushed»
+
+  known : cases.Sound b
+  known = cases.is-sound b (f .is-sound)
+
   abbrev l : ℕ
   l = lowLen u n
 
@@ -63,10 +79,14 @@ module _ (u n m : ℕ) (w : List ℕ) (f : Holding u n m w) where
   sw = wordsFor (n * lowLen u n)
 
   abbrev ws : List ℕ
-  ws = startWords u n w
+  ws = heldWords b w
 
   abbrev T : List ℕ
   T = timesIn u n m ws
+
+  long : 6 + wordsFor (highLen u n) + wordsFor (n * lowLen u n) ≤ length w
+  unfolding startLen
+  long = f .long
 
   start-is : startLen u n ≡ 6 + (hw + sw)
   unfolding startLen
@@ -74,7 +94,7 @@ module _ (u n m : ℕ) (w : List ℕ) (f : Holding u n m w) where
 
   length-ws : length ws ≡ hw + sw
   length-ws =
-      length-take-le (startLen u n - 6) (drop 6 w) (let d = length-drop 6 w in let b = f .long in let s = start-is in omega arith)
+      length-take-le (startLen u n - 6) (drop 6 w) (let d = length-drop 6 w in let b = long in let s = start-is in omega arith)
       ∙ (let s = start-is in omega arith)
 
   abbrev high : List ℕ
@@ -93,7 +113,8 @@ module _ (u n m : ℕ) (w : List ℕ) (f : Holding u n m w) where
   split = take-append-drop hw ws
 
   held : (rising u 0 (timesIn u n m (high ++ low)) ≡ true) × (high ++ low ≡ bitWords u n (length low) (timesIn u n m (high ++ low)))
-  held = fit-held u n m high low length-high′ (ap (holds u n m) split ∙ f .held)
+  unfolding intact
+  held = fit-held u n m high low length-high′ (ap (holds u n m) split ∙ and-true _ _ (f .is-intact) .0)
 
   pub rises : rising u 0 T ≡ true
   rises = sym (ap (λ (x : List ℕ). rising u 0 (timesIn u n m x)) split) ∙ held .0
@@ -105,11 +126,11 @@ module _ (u n m : ℕ) (w : List ℕ) (f : Holding u n m w) where
   length-T = sym (ap (λ (x : List ℕ). length (timesIn u n m x)) split) ∙ length-held u n m high low length-high′
 
   pub few-T : length T ≤ n
-  few-T = le-trans (le-of-eq length-T) (f .few)
+  few-T = le-trans (le-of-eq length-T) (known .few)
 
   -- as many low words as the image has are in the start
   low-le : lw ≤ sw
-  low-le = let p : m * l ≤ n * l = mul-le-mul (f .few) (le-refl l) in omega arith
+  low-le = let p : m * l ≤ n * l = mul-le-mul (known .few) (le-refl l) in omega arith
 
   low-words : take lw (numberWords sw (lowNumber l T)) ≡ numberWords lw (lowNumber l T)
   low-words = take-words lw sw (lowNumber l T) low-le
@@ -133,7 +154,7 @@ module _ (u n m : ℕ) (w : List ℕ) (f : Holding u n m w) where
   pub measurable : u < 2 ^ 64 → Measurable (take hw (drop 6 w)) H
   measurable hu = (
     ap (λ (x : List ℕ). invalid x H) high-is ∙ valid-high u n T rises few-T,
-    (let h = limits.high-small u n m hu (f .some) (f .most) (f .few) in omega arith),
+    (let h = limits.high-small u n m hu (known .some) (known .most) (known .few) in omega arith),
   )
 
   -- ---- with a plan
@@ -186,17 +207,17 @@ module _ (u n m : ℕ) (w : List ℕ) (f : Holding u n m w) where
           (ap₂ (λ (P Q : List ℕ). indexWords P ++ cond c (indexWords Q) []) ones-positions zeros-positions ∙ ap (λ (Z : List ℕ). ones ++ Z) (cond-words c (positions false hs H)))
           ∙ sym (append-assoc (highWords u n T) (numberWords lw (lowNumber l T)) (ones ++ zeros)) ∙ ap (λ (B : List ℕ). B ++ (ones ++ zeros)) (sym bits-is)
 
-      pub image-is : imageIn u n m c w ≡ front ++ (ones ++ zeros)
-      unfolding image
+      pub image-is : imageOf b c w ≡ front ++ (ones ++ zeros)
+      unfolding image imageOf heldTimes
       image-is = λ x. u ∷ n ∷ length-T x ∷ flag c ∷ fourth x ∷ fifth x ∷ body-is x
 
       body-le : hw + lw ≤ length (drop 6 w)
-      body-le = let d = length-drop 6 w in let b = f .long in let h = low-le in omega arith
+      body-le = let d = length-drop 6 w in let b = long in let h = low-le in omega arith
 
       length-front : length front ≡ at
       length-front = let e = length-take-le (hw + lw) (drop 6 w) body-le in omega arith
 
-      pub length-image : length (imageIn u n m c w) ≡ p .end
+      pub length-image : length (imageOf b c w) ≡ p .end
       length-image =
           ap length image-is ∙ length-append front (ones ++ zeros) ∙ ap₂ (λ (a b : ℕ). a + b) length-front (length-append ones zeros)
           ∙ (let e : at + (length ones + length zeros) ≡ at + length ones + length zeros = omega arith in e) ∙ sym (q .end)
@@ -215,7 +236,7 @@ module _ (u n m : ℕ) (w : List ℕ) (f : Holding u n m w) where
 
         module _ (w₁ : List ℕ) (e₁ : w₁ ≡ u ∷ n ∷ m ∷ flag c ∷ p .ones .overflow ∷ p .zeros .overflow ∷ drop 6 w) where
           length-1 : length w₁ ≡ length w
-          length-1 = ap length e₁ ∙ (let d = length-drop 6 w in let b = f .long in omega arith)
+          length-1 = ap length e₁ ∙ (let d = length-drop 6 w in let b = long in omega arith)
 
           high-1 : take (wordsFor h) (drop 6 w₁) ≡ hs
           high-1 = ap₂ (λ (k : ℕ) (x : List ℕ). take (wordsFor k) (drop 6 x)) eh e₁
@@ -293,13 +314,13 @@ module _ (u n m : ℕ) (w : List ℕ) (f : Holding u n m w) where
             rest-2 = ap (drop (p .«zeros_at»)) both ∙ drop-at (front ++ ones) rest (p .«zeros_at») length-both
 
             -- the later words stay
-            rest-3 : drop (length zeros) rest ≡ drop (length (imageIn u n m c w)) w
+            rest-3 : drop (length zeros) rest ≡ drop (length (imageOf b c w)) w
             rest-3 =
                 drop-drop (length zeros) (length ones) (drop at w) ∙ drop-drop (length ones + length zeros) at w
                 ∙ ap (λ (k : ℕ). drop k w) (let e : at + (length ones + length zeros) ≡ at + length ones + length zeros = omega arith in e ∙ sym (q .end) ∙ sym length-image)
 
             pub image-written : (w₃ : List ℕ)
-                → w₃ ≡ take (p .«zeros_at») w₂ ++ (zerosWords c (take (wordsFor h) (drop 6 w₂)) h ++ drop (length (zerosWords c (take (wordsFor h) (drop 6 w₂)) h)) (drop (p .«zeros_at») w₂)) → w₃ ≡ finishedWords u n m c w
+                → w₃ ≡ take (p .«zeros_at») w₂ ++ (zerosWords c (take (wordsFor h) (drop 6 w₂)) h ++ drop (length (zerosWords c (take (wordsFor h) (drop 6 w₂)) h)) (drop (p .«zeros_at») w₂)) → w₃ ≡ finishedWords b c w
             image-written w₃ e₃ =
                 e₃ ∙ ap₂ (λ (A R : List ℕ). A ++ (zerosWords c (take (wordsFor h) (drop 6 w₂)) h ++ drop (length (zerosWords c (take (wordsFor h) (drop 6 w₂)) h)) R)) front-2 rest-2
                 ∙ ap₂ (λ (x : List ℕ) (k : ℕ). (front ++ ones) ++ (zerosWords c x k ++ drop (length (zerosWords c x k)) rest)) high-2 eh
@@ -310,41 +331,41 @@ module _ (u n m : ℕ) (w : List ℕ) (f : Holding u n m w) where
 
   module _ (hu : u < 2 ^ 64) (low : ℕ) (h : ℕ) (el : low ≡ lowLen u n) (eh : h ≡ highLen u n) where
     pub product-fits : Fits w64 (m * low)
-    product-fits = limits.product-fits u n m hu (f .some) (f .most) (f .few) low el
+    product-fits = limits.product-fits u n m hu (known .some) (known .most) (known .few) low el
 
-    module _ (a b : ℕ) (ea : a ≡ wordsFor h) (eb : b ≡ wordsFor (m * low)) where
+    module _ (a d : ℕ) (ea : a ≡ wordsFor h) (ed : d ≡ wordsFor (m * low)) where
       high-words : a ≡ hw
       high-words = ea ∙ ap wordsFor eh
 
-      few-words : b ≡ lw
-      few-words = eb ∙ ap (λ (k : ℕ). wordsFor (m * k)) el
+      few-words : d ≡ lw
+      few-words = ed ∙ ap (λ (k : ℕ). wordsFor (m * k)) el
 
-      pub ones-fits : Fits w64 (6 + a + b)
-      ones-fits = limits.ones-fits u n m hu (f .some) (f .most) (f .few) a b high-words few-words
+      pub ones-fits : Fits w64 (6 + a + d)
+      ones-fits = limits.ones-fits u n m hu (known .some) (known .most) (known .few) a d high-words few-words
 
       pub high-in : 6 + a ≤ length w
-      high-in = let e = high-words in let g = f .long in omega arith
+      high-in = let e = high-words in let g = long in omega arith
 
       part-is : take (6 + a - 6) (drop 6 w) ≡ take hw (drop 6 w)
       part-is = ap (λ (k : ℕ). take k (drop 6 w)) (let e = high-words in let d : 6 + a - 6 ≡ hw = omega arith in d)
 
-      pub plan-ready : Measurable (take (6 + a - 6) (drop 6 w)) h × (6 + a + b < 2 ^ 32)
+      pub plan-ready : Measurable (take (6 + a - 6) (drop 6 w)) h × (6 + a + d < 2 ^ 32)
       plan-ready = (
         subst⁻¹ (λ (k : ℕ). Measurable (take (6 + a - 6) (drop 6 w)) k) eh (subst⁻¹ (λ (x : List ℕ). Measurable x H) part-is (measurable hu)),
         (
-            let x = limits.high-small u n m hu (f .some) (f .most) (f .few) in
-            let y = limits.product-small u n m hu (f .some) (f .most) (f .few) in
+            let x = limits.high-small u n m hu (known .some) (known .most) (known .few) in
+            let y = limits.product-small u n m hu (known .some) (known .most) (known .few) in
             let e = high-words in
             let g = few-words in
             omega arith
             ),
       )
 
-      module _ (c : Bool) (p : Plan) (q : Planned c (take (6 + a - 6) (drop 6 w)) h (6 + a + b) p) where
+      module _ (c : Bool) (p : Plan) (q : Planned c (take (6 + a - 6) (drop 6 w)) h (6 + a + d) p) where
         is-planned : Planned c (take hw (drop 6 w)) H (6 + hw + lw) p
         is-planned =
             subst (λ (k : ℕ). Planned c (take hw (drop 6 w)) H k p) (ap₂ (λ (x y : ℕ). 6 + x + y) high-words few-words)
-            (subst (λ (k : ℕ). Planned c (take hw (drop 6 w)) k (6 + a + b) p) eh (subst (λ (x : List ℕ). Planned c x h (6 + a + b) p) part-is q))
+            (subst (λ (k : ℕ). Planned c (take hw (drop 6 w)) k (6 + a + d) p) eh (subst (λ (x : List ℕ). Planned c x h (6 + a + d) p) part-is q))
 
-        pub finishable : Finishable u n m c h p w
-        finishable = record { holding = f; high = eh; planned = is-planned; long = sym (length-image c p is-planned) }
+        pub finishable : Finishable b c p w
+        finishable = record { holding = f; planned = is-planned; long = sym (length-image c p is-planned) }

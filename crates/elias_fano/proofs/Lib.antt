@@ -6,9 +6,10 @@ pub mod Finished
 pub mod Heading
 pub mod Images
 pub mod Indexing
-pub mod Intact
 pub mod Limits
 pub mod Parts
+pub mod Placing
 pub mod Planning
 pub mod Selecting
 pub mod Standing
+pub mod Testing

@@ -80,11 +80,11 @@ module _ (c : Bool) (ws : List ℕ) (len : ℕ) (m : Measurable ws len) (o z : S
         fits = omega (arith, total-small (positions true ws len) o so (lt-of-le-of-lt (positions-le true ws len) (m .1)), total-small (zerosOf c ws len) z sz (lt-of-le-of-lt (zeros-le c ws len) (m .1)));
       }
 
-      pub is-planned : Planned c ws len at (record { ones = o; zeros = z; «ones_at» = at; «zeros_at» = at + x; end = at + x + y })
+      pub is-planned : Planned c ws len at (record { ones = o; zeros = z; «high_len» = len; «ones_at» = at; «zeros_at» = at + x; end = at + x + y })
       is-planned =
           let a : x ≡ length (onesWords ws len) = ex ∙ building.index-length (positions true ws len) o so in
           let b : y ≡ length (zerosWords c ws len) = ey ∙ building.index-length (zerosOf c ws len) z sz in
-          record { ones = so; zeros = sz; ones-at = refl; zeros-at = ap (λ (k : ℕ). at + k) a; end = ap₂ (λ (i j : ℕ). at + i + j) a b }
+          record { ones = so; zeros = sz; high = refl; ones-at = refl; zeros-at = ap (λ (k : ℕ). at + k) a; end = ap₂ (λ (i j : ℕ). at + i + j) a b }
 
 -- ---- what is written
 

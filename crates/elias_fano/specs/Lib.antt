@@ -4,3 +4,4 @@ pub mod Made
 pub mod Opening
 pub mod Rows
 pub mod Steps
+pub mod Testing

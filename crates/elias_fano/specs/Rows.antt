@@ -17,7 +17,7 @@ use Rattle.elias_fano_words.specs.Image.{highFrom, lowNumber, highWords, lowWor
 use Rattle.elias_fano_words.specs.Times.{rising, bitWords, timeIn, timesIn, holds}
 use Rattle.elias_fano.specs.Accept.{fit, times, accepted, timeOf, selectOf}
 use Rattle.elias_fano.specs.Made.{Made, builder}
-use Rattle.elias_fano.specs.Steps.{newOf, sound, filed, pushOf, heldTimes, intact, imageOf, buildOf}
+use Rattle.elias_fano.specs.Steps.{newTest, newOf, sound, builderTest, timeTest, filed, pushOf, heldTimes, intact, imageOf, imageTest, buildOf}
 
 -- what is asked, and what document 01 says
 pub record Row : Type 0 where
@@ -62,5 +62,5 @@ rows =
     ∷ []
 
 pub rows-right : map (λ (r : Row). r .asked) rows ≡ map (λ (r : Row). r .says) rows
-unfolding rows four written filedFrom bit count word last select bitAt bitOver number numberWords overwrite table pos blocks size wide spill before entry lanes lane laneWord laneWords overflow indexWords places same lowLen highLen startLen highFrom lowNumber highWords lowWords image rising bitWords timeIn timesIn holds fit times accepted timeOf selectOf newOf sound filed pushOf heldTimes intact imageOf buildOf
+unfolding rows four written filedFrom bit count word last select bitAt bitOver number numberWords overwrite table pos blocks size wide spill before entry lanes lane laneWord laneWords overflow indexWords places same lowLen highLen startLen highFrom lowNumber highWords lowWords image rising bitWords timeIn timesIn holds fit times accepted timeOf selectOf newTest newOf sound builderTest timeTest filed pushOf heldTimes intact imageOf imageTest buildOf
 rows-right = refl

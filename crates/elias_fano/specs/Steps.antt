@@ -5,7 +5,7 @@ use mathlib.Core.Bool.{Bool, not, _&&_, cond}
 use Prim.Native.Nat.{ℕ, _+_, _-_, _*_, _/_, _%_, _^_}
 use lib.Dec.{eqb, leb, ltb}
 use lib.ListN.{length, take, drop, replicate}
-use Rattle.errors.specs.Answer.{value, done, refused}
+use Rattle.errors.specs.Answer.{Answer, value, none, done, refused}
 use Rattle.bit_words.specs.Vector.{wordsFor, overwrite}
 use Rattle.elias_fano_words.specs.Sizes.{lowLen, highLen, startLen}
 use Rattle.elias_fano_words.specs.Image.{image}
@@ -13,22 +13,56 @@ use Rattle.elias_fano_words.specs.Times.{lastOf, timesIn, holds}
 use Rattle.elias_fano.specs.declared.builder.Builder.{Builder}
 use Rattle.elias_fano.specs.Made.{Made, made, builder, nobody}
 
+-- ---- a call: first its tests, then its work
+
+-- what a call leaves whose tests say `done` or refuse, and whose work leaves m. A refusal leaves builder and words as they were
+abbrev pub tested : Answer → Builder → List ℕ → Made → Made
+tested done b w m = m
+tested (refused k) b w m = made (refused k) b w
+tested (value k) b w m = made (value k) b w
+tested none b w m = made none b w
+
 -- ---- a start: 1, 2, 3
+
+-- of k words lent
+unfoldable pub newTest : ℕ → ℕ → ℕ → Answer
+newTest u n k =
+    cond (eqb n 0) (refused 1)
+    (cond (ltb 16777216 n) (refused 2)
+    (cond (ltb k (startLen u n)) (refused 3)
+    done))
 
 unfoldable pub newOf : ℕ → ℕ → List ℕ → Made
 newOf u n w =
-    cond (eqb n 0) (made (refused 1) nobody w)
-    (cond (ltb 16777216 n) (made (refused 2) nobody w)
-    (cond (ltb (length w) (startLen u n)) (made (refused 3) nobody w)
-    (made done (builder u n 0 0) (replicate (startLen u n) 0 ++ drop (startLen u n) w))))
+    tested (newTest u n (length w)) nobody w
+    (made done (builder u n 0 0) (replicate (startLen u n) 0 ++ drop (startLen u n) w))
 
--- ---- a reading: 7, 3, 4, 5, 6
+-- ---- a reading and a finish: 7 by the builder's numbers, 3 by the start's size, then others
 
 -- a run could hold these numbers
 unfoldable pub sound : Builder → Bool
 sound b =
     leb 1 (b .«num_vals») && (leb (b .«num_vals») 16777216 && (leb (b .«num_pushed») (b .«num_vals»)
     && cond (eqb (b .«num_pushed») 0) (eqb (b .last) 0) (ltb (b .last) (b .universe))))
+
+-- of k words lent, where `others` is what the other tests say
+unfoldable pub builderTest : Builder → ℕ → Answer → Answer
+builderTest b k others =
+    cond (not (sound b)) (refused 7)
+    (cond (ltb k (startLen (b .universe) (b .«num_vals»))) (refused 3)
+    others)
+
+-- ---- a reading: 7, 3, 4, 5, 6
+
+unfoldable pub timeTest : Builder → ℕ → Answer
+timeTest b t =
+    cond (ltb t (b .last)) (refused 4)
+    (cond (leb (b .universe) t) (refused 5)
+    (cond (eqb (b .«num_pushed») (b .«num_vals»)) (refused 6)
+    done))
+
+abbrev pub pushTest : Builder → ℕ → ℕ → Answer
+pushTest b t k = builderTest b k (timeTest b t)
 
 -- the words after the time t with the number m is filed: its one high bit and its low bits, and no other
 unfoldable pub filed : ℕ → ℕ → ℕ → ℕ → List ℕ → List ℕ
@@ -38,12 +72,8 @@ filed u n m t w =
 
 unfoldable pub pushOf : Builder → ℕ → List ℕ → Made
 pushOf b t w =
-    cond (not (sound b)) (made (refused 7) b w)
-    (cond (ltb (length w) (startLen (b .universe) (b .«num_vals»))) (made (refused 3) b w)
-    (cond (ltb t (b .last)) (made (refused 4) b w)
-    (cond (leb (b .universe) t) (made (refused 5) b w)
-    (cond (eqb (b .«num_pushed») (b .«num_vals»)) (made (refused 6) b w)
-    (made done (builder (b .universe) (b .«num_vals») (b .«num_pushed» + 1) t) (filed (b .universe) (b .«num_vals») (b .«num_pushed») t w))))))
+    tested (pushTest b t (length w)) b w
+    (made done (builder (b .universe) (b .«num_vals») (b .«num_pushed» + 1) t) (filed (b .universe) (b .«num_vals») (b .«num_pushed») t w))
 
 -- ---- a finish: 7 by the builder's numbers, 3 by the start's size, 7 by the bits, 3 by the image's length
 
@@ -63,10 +93,18 @@ intact b w = holds (b .universe) (b .«num_vals») (b .«num_pushed») (heldWord
 unfoldable pub imageOf : Builder → Bool → List ℕ → List ℕ
 imageOf b c w = image (b .universe) (b .«num_vals») c (heldTimes b w)
 
+unfoldable pub imageTest : Builder → Bool → List ℕ → Answer
+imageTest b c w =
+    cond (not (intact b w)) (refused 7)
+    (cond (ltb (length w) (length (imageOf b c w))) (refused 3)
+    done)
+
+abbrev pub buildTest : Builder → Bool → List ℕ → Answer
+buildTest b c w = builderTest b (length w) (imageTest b c w)
+
+-- the image stands at the front, and the later words stay
+abbrev pub finishedWords : Builder → Bool → List ℕ → List ℕ
+finishedWords b c w = imageOf b c w ++ drop (length (imageOf b c w)) w
+
 unfoldable pub buildOf : Builder → Bool → List ℕ → Made
-buildOf b c w =
-    cond (not (sound b)) (made (refused 7) b w)
-    (cond (ltb (length w) (startLen (b .universe) (b .«num_vals»))) (made (refused 3) b w)
-    (cond (not (intact b w)) (made (refused 7) b w)
-    (cond (ltb (length w) (length (imageOf b c w))) (made (refused 3) b w)
-    (made (value (length (imageOf b c w))) b (imageOf b c w ++ drop (length (imageOf b c w)) w)))))
+buildOf b c w = tested (buildTest b c w) b w (made (value (length (imageOf b c w))) b (finishedWords b c w))

@@ -3,14 +3,13 @@
 // `push` takes constant time; `new` and `build` take time linear in the words. Nothing is allocated. The builder is a plain value, and may
 // be any: one that no run could hold is refused.
 ghost use mathlib.Core.Path.{_≡_};
-ghost use Prim.Native.Nat.{_≤_, _<_};
 ghost use lib.ListN.{length};
-ghost use Rattle.elias_fano_words.specs.Checks.{Checkable};
-ghost use Rattle.elias_fano_words.specs.Sizes.{startLen, sizesOf};
-ghost use Rattle.elias_fano.specs.Finishing.{intactWords};
 ghost use Rattle.elias_fano.specs.Made.{nobody, ofPushed, ofBuilt};
-ghost use Rattle.elias_fano.specs.Steps.{newOf, sound, filed, pushOf, buildOf};
-use crate::finish::make_image;
+ghost use Rattle.elias_fano.specs.Steps.{newOf, sound, filed, pushOf, intact, buildOf};
+ghost use Rattle.elias_fano.specs.Testing.{TestsNew, Roomy, TestsBuilder, Fileable, TestsPush, TestsBuild};
+use crate::finish::Plan;
+use crate::finish::plan_image;
+use crate::finish::write_image;
 use bit_words::WORD_LEN;
 use bit_words::fill;
 use bit_words::low_bits;
@@ -44,28 +43,82 @@ pub enum Built {
     Refused(Refusal),
 }
 
+// What the tests of a start or of a reading find: the sizes of the record, or a refusal.
+enum Tested {
+    Passed(Sizes),
+    Refused(Refusal),
+}
+
+// What the tests of a finish find: the plan of the image, or a refusal.
+enum TestedBuild {
+    Passed(Plan),
+    Refused(Refusal),
+}
+
 // Begins a record of up to `num_vals` values below `universe` (document 01: a start).
 pub fn new(universe: u64, num_vals: u64, buffer: &mut [u64]) -> Pushed
     ensures { λ r. ⌜ ofPushed nobody r (now (buffer .exit)) ≡ newOf universe «num_vals» (now (buffer .entry)) ⌝ }
 {
+    match test_new(universe, num_vals, buffer.len()) {
+        Tested::Passed(s) => {
+            fill(&mut *buffer, s.start_len, 0);
+            Pushed::Accepted(Builder {
+                universe,
+                num_vals,
+                num_pushed: 0,
+                last: 0,
+            })
+        }
+        Tested::Refused(e) => Pushed::Refused(e),
+    }
+}
+
+// Files one value more, which must not be below the last (document 01: a reading).
+pub fn push(b: Builder, val: u64, buffer: &mut [u64]) -> Pushed
+    ensures { λ r. ⌜ ofPushed b r (now (buffer .exit)) ≡ pushOf b val (now (buffer .entry)) ⌝ }
+{
+    match test_push(b, val, buffer.len()) {
+        Tested::Passed(s) => {
+            file(b, val, s, &mut *buffer);
+            Pushed::Accepted(Builder {
+                universe: b.universe,
+                num_vals: b.num_vals,
+                num_pushed: b.num_pushed + 1,
+                last: val,
+            })
+        }
+        Tested::Refused(e) => Pushed::Refused(e),
+    }
+}
+
+// Makes an image of the words (document 01: a finish), with an index over the zeros for `rank`, if they hold nothing but the values that were pushed.
+pub fn build(b: Builder, rank: bool, buffer: &mut [u64]) -> Built
+    ensures { λ r. ⌜ ofBuilt b r (now (buffer .exit)) ≡ buildOf b rank (now (buffer .entry)) ⌝ }
+{
+    match test_build(b, rank, &*buffer) {
+        TestedBuild::Passed(p) => {
+            write_image(&mut *buffer, b, rank, p);
+            Built::Words(p.end)
+        }
+        TestedBuild::Refused(e) => Built::Refused(e),
+    }
+}
+
+// The tests of a start with len words.
+fn test_new(universe: u64, num_vals: u64, len: usize) -> Tested
+    ensures { λ r. ⌜ TestsNew universe «num_vals» len r ⌝ }
+{
     if num_vals == 0 {
-        return Pushed::Refused(Refusal::NoValues);
+        return Tested::Refused(Refusal::NoValues);
     }
     if num_vals > MAX_VALS {
-        return Pushed::Refused(Refusal::TooMany);
+        return Tested::Refused(Refusal::TooMany);
     }
     let s = of_record(universe, num_vals);
-    let start = s.start_len;
-    if buffer.len() < start {
-        return Pushed::Refused(Refusal::ShortBuffer);
+    if len < s.start_len {
+        return Tested::Refused(Refusal::ShortBuffer);
     }
-    fill(&mut *buffer, start, 0);
-    Pushed::Accepted(Builder {
-        universe,
-        num_vals,
-        num_pushed: 0,
-        last: 0,
-    })
+    Tested::Passed(s)
 }
 
 // Whether a run could hold these numbers.
@@ -87,13 +140,54 @@ fn is_sound(b: Builder) -> bool
     b.last < b.universe
 }
 
-// Files the value with the number num_pushed: its one high bit, and its low bits.
-fn file(universe: u64, num_vals: u64, num_pushed: u64, val: u64, s: Sizes, buffer: &mut [u64])
-    requires { ⌜ ((val < universe) × («num_pushed» < «num_vals») × («num_vals» ≤ 16777216) × (s ≡ sizesOf universe «num_vals») × (startLen universe «num_vals» ≤ length (now buffer))) ⌝ }
-    ensures { λ _. ⌜ now (buffer .exit) ≡ filed universe «num_vals» «num_pushed» val (now (buffer .entry)) ⌝ }
+// The tests that a reading and a finish begin with.
+fn test_builder(b: Builder, len: usize) -> Tested
+    ensures { λ r. ⌜ TestsBuilder b len r ⌝ }
+{
+    if !is_sound(b) {
+        return Tested::Refused(Refusal::Invalid);
+    }
+    let s = of_record(b.universe, b.num_vals);
+    if len < s.start_len {
+        return Tested::Refused(Refusal::ShortBuffer);
+    }
+    Tested::Passed(s)
+}
+
+// The tests of a value, of which nothing is computed: s is handed on.
+fn test_value(b: Builder, val: u64, s: Sizes, len: usize) -> Tested
+    requires { ⌜ Roomy b len s ⌝ }
+    ensures { λ r. ⌜ TestsPush b val len r ⌝ }
+{
+    if val < b.last {
+        return Tested::Refused(Refusal::Decreasing);
+    }
+    if val >= b.universe {
+        return Tested::Refused(Refusal::OutOfUniverse);
+    }
+    if b.num_pushed == b.num_vals {
+        return Tested::Refused(Refusal::Full);
+    }
+    Tested::Passed(s)
+}
+
+// The tests of a reading with len words.
+fn test_push(b: Builder, val: u64, len: usize) -> Tested
+    ensures { λ r. ⌜ TestsPush b val len r ⌝ }
+{
+    match test_builder(b, len) {
+        Tested::Passed(s) => test_value(b, val, s, len),
+        Tested::Refused(e) => Tested::Refused(e),
+    }
+}
+
+// Files the next value: its one high bit, and its low bits.
+fn file(b: Builder, val: u64, s: Sizes, buffer: &mut [u64])
+    requires { ⌜ Fileable b val (length (now buffer)) s ⌝ }
+    ensures { λ _. ⌜ now (buffer .exit) ≡ filed (b .universe) (b .«num_vals») (b .«num_pushed») val (now (buffer .entry)) ⌝ }
 {
     let low = s.low_len;
-    let at = num_pushed as usize;
+    let at = b.num_pushed as usize;
     set_one(&mut *buffer, WORD_LEN * 6 + ((val >> low) as usize + at));
     put_bits(
         &mut *buffer,
@@ -103,42 +197,14 @@ fn file(universe: u64, num_vals: u64, num_pushed: u64, val: u64, s: Sizes, buffe
     );
 }
 
-// Files one value more, which must not be below the last (document 01: a reading).
-pub fn push(b: Builder, val: u64, buffer: &mut [u64]) -> Pushed
-    ensures { λ r. ⌜ ofPushed b r (now (buffer .exit)) ≡ pushOf b val (now (buffer .entry)) ⌝ }
-{
-    if !is_sound(b) {
-        return Pushed::Refused(Refusal::Invalid);
-    }
-    let s = of_record(b.universe, b.num_vals);
-    if buffer.len() < s.start_len {
-        return Pushed::Refused(Refusal::ShortBuffer);
-    }
-    if val < b.last {
-        return Pushed::Refused(Refusal::Decreasing);
-    }
-    if val >= b.universe {
-        return Pushed::Refused(Refusal::OutOfUniverse);
-    }
-    if b.num_pushed == b.num_vals {
-        return Pushed::Refused(Refusal::Full);
-    }
-    file(b.universe, b.num_vals, b.num_pushed, val, s, &mut *buffer);
-    Pushed::Accepted(Builder {
-        universe: b.universe,
-        num_vals: b.num_vals,
-        num_pushed: b.num_pushed + 1,
-        last: val,
-    })
-}
-
 // Whether the words hold as many values as were pushed, in order, with the last one last, and nothing else.
 fn is_intact(b: Builder, s: Sizes, words: &[u64]) -> bool
-    requires { ⌜ Checkable (b .universe) (b .«num_vals») (b .«num_pushed») (s .«low_len») (s .«high_len») (now words) ⌝ }
-    ensures { λ r. ⌜ r ≡ intactWords b (now (words .entry)) ⌝ }
+    requires { ⌜ Roomy b (length (now words)) s ⌝ }
+    ensures { λ r. ⌜ r ≡ intact b (now (words .entry)) ⌝ }
 {
+    let start = s.start_len;
     match check(
-        words,
+        &words[6..start],
         b.universe,
         b.num_vals,
         b.num_pushed,
@@ -150,28 +216,27 @@ fn is_intact(b: Builder, s: Sizes, words: &[u64]) -> bool
     }
 }
 
-// Makes an image of the words (document 01: a finish), with an index over the zeros for `rank`, if they hold nothing but the values that were pushed.
-pub fn build(b: Builder, rank: bool, buffer: &mut [u64]) -> Built
-    ensures { λ r. ⌜ ofBuilt b r (now (buffer .exit)) ≡ buildOf b rank (now (buffer .entry)) ⌝ }
+// The tests of the words, and of the length of the image that they become.
+fn test_image(b: Builder, rank: bool, s: Sizes, words: &[u64]) -> TestedBuild
+    requires { ⌜ Roomy b (length (now words)) s ⌝ }
+    ensures { λ r. ⌜ TestsBuild b rank (now (words .entry)) r ⌝ }
 {
-    if !is_sound(b) {
-        return Built::Refused(Refusal::Invalid);
+    if !is_intact(b, s, words) {
+        return TestedBuild::Refused(Refusal::Invalid);
     }
-    let s = of_record(b.universe, b.num_vals);
-    let start = s.start_len;
-    if buffer.len() < start {
-        return Built::Refused(Refusal::ShortBuffer);
+    let p = plan_image(words, b, rank, s.low_len, s.high_len);
+    if words.len() < p.end {
+        return TestedBuild::Refused(Refusal::ShortBuffer);
     }
-    if !is_intact(b, s, &buffer[6..start]) {
-        return Built::Refused(Refusal::Invalid);
+    TestedBuild::Passed(p)
+}
+
+// The tests of a finish.
+fn test_build(b: Builder, rank: bool, words: &[u64]) -> TestedBuild
+    ensures { λ r. ⌜ TestsBuild b rank (now (words .entry)) r ⌝ }
+{
+    match test_builder(b, words.len()) {
+        Tested::Passed(s) => test_image(b, rank, s, words),
+        Tested::Refused(e) => TestedBuild::Refused(e),
     }
-    make_image(
-        &mut *buffer,
-        b.universe,
-        b.num_vals,
-        b.num_pushed,
-        rank,
-        s.low_len,
-        s.high_len,
-    )
 }

@@ -9,19 +9,20 @@ ghost use Rattle.bit_words.specs.Vector.{wordsFor};
 ghost use Rattle.darray.specs.Positions.{positions};
 ghost use Rattle.darray.specs.Scan.{Sized, Writable};
 ghost use Rattle.elias_fano_words.specs.Sizes.{lowLen, highLen};
-ghost use Rattle.elias_fano.specs.Finishing.{Measurable, zerosOf, zerosWords, Planned, Holding, Finishable, finishedWords, Finishes};
-use crate::builder::Built;
+ghost use Rattle.elias_fano.specs.Finishing.{Measurable, zerosOf, zerosWords, Planned, Holding, Finishable};
+ghost use Rattle.elias_fano.specs.Steps.{finishedWords};
+use crate::builder::Builder;
 use bit_words::words_for;
 use darray::inner::Measured;
 use darray::inner::Sizes;
 use darray::inner::measure;
 use darray::inner::write_within;
-use errors::Refusal;
 
-// The sizes of the indexes over the ones and the zeros of the high bits, where they begin, and where the image ends.
+// The sizes of the indexes over the ones and the zeros of so many high bits, where they begin, and where the image ends.
 pub struct Plan {
     pub ones: Sizes,
     pub zeros: Sizes,
+    pub high_len: usize,
     pub ones_at: usize,
     pub zeros_at: usize,
     pub end: usize,
@@ -70,7 +71,7 @@ fn index_words(s: Sizes) -> usize
 }
 
 // The indexes over the high bits, the first of which is to begin at the place `at`.
-fn plan_image(high: &[u64], len: usize, rank: bool, at: usize) -> Plan
+fn plan_indexes(high: &[u64], len: usize, rank: bool, at: usize) -> Plan
     requires { ⌜ (Measurable (now high) len × (at < 2 ^ 32)) ⌝ }
     ensures { λ r. ⌜ Planned rank (now (high .entry)) len at r ⌝ }
 {
@@ -80,28 +81,31 @@ fn plan_image(high: &[u64], len: usize, rank: bool, at: usize) -> Plan
     Plan {
         ones,
         zeros,
+        high_len: len,
         ones_at: at,
         zeros_at,
         end: zeros_at + index_words(zeros),
     }
 }
 
-// Writes the six words of the header.
-fn write_header(
-    buffer: &mut [u64],
-    universe: u64,
-    num_vals: u64,
-    num_pushed: u64,
-    rank: bool,
-    ones: usize,
-    zeros: usize,
-)
-    requires { ⌜ 6 ≤ length (now buffer) ⌝ }
-    ensures { λ _. ⌜ now (buffer .exit) ≡ universe ∷ «num_vals» ∷ «num_pushed» ∷ flag rank ∷ ones ∷ zeros ∷ drop 6 (now (buffer .entry)) ⌝ }
+// The plan of the image of the times that the words hold.
+pub fn plan_image(words: &[u64], b: Builder, rank: bool, low_len: usize, high_len: usize) -> Plan
+    requires { ⌜ (Holding b (now words) × («low_len» ≡ lowLen (b .universe) (b .«num_vals»)) × («high_len» ≡ highLen (b .universe) (b .«num_vals»))) ⌝ }
+    ensures { λ r. ⌜ Finishable b rank r (now (words .entry)) ⌝ }
 {
-    buffer[0] = universe;
-    buffer[1] = num_vals;
-    buffer[2] = num_pushed;
+    let low_at = 6 + words_for(high_len);
+    let ones_at = low_at + words_for(b.num_pushed as usize * low_len);
+    plan_indexes(&words[6..low_at], high_len, rank, ones_at)
+}
+
+// Writes the six words of the header.
+fn write_header(buffer: &mut [u64], b: Builder, rank: bool, ones: usize, zeros: usize)
+    requires { ⌜ 6 ≤ length (now buffer) ⌝ }
+    ensures { λ _. ⌜ now (buffer .exit) ≡ b .universe ∷ b .«num_vals» ∷ b .«num_pushed» ∷ flag rank ∷ ones ∷ zeros ∷ drop 6 (now (buffer .entry)) ⌝ }
+{
+    buffer[0] = b.universe;
+    buffer[1] = b.num_vals;
+    buffer[2] = b.num_pushed;
     buffer[3] = rank as u64;
     buffer[4] = ones as u64;
     buffer[5] = zeros as u64;
@@ -118,85 +122,14 @@ fn write_zeros(buffer: &mut [u64], len: usize, rank: bool, s: Sizes, at: usize)
     write_within(&mut *buffer, 6, len, false, s, at);
 }
 
-// Writes the image of the times that the words hold.
-fn write_image(
-    buffer: &mut [u64],
-    universe: u64,
-    num_vals: u64,
-    num_pushed: u64,
-    rank: bool,
-    high_len: usize,
-    p: Plan,
-)
-    requires { ⌜ (Finishable universe «num_vals» «num_pushed» rank «high_len» p (now buffer) × (p .end ≤ length (now buffer))) ⌝ }
-    ensures { λ _. ⌜ now (buffer .exit) ≡ finishedWords universe «num_vals» «num_pushed» rank (now (buffer .entry)) ⌝ }
+// Writes the image of the times that the words hold. They become it: the bits stay where they stand.
+pub fn write_image(buffer: &mut [u64], b: Builder, rank: bool, p: Plan)
+    requires { ⌜ (Finishable b rank p (now buffer) × (p .end ≤ length (now buffer))) ⌝ }
+    ensures { λ _. ⌜ now (buffer .exit) ≡ finishedWords b rank (now (buffer .entry)) ⌝ }
 {
     let ones = p.ones;
     let zeros = p.zeros;
-    write_header(
-        &mut *buffer,
-        universe,
-        num_vals,
-        num_pushed,
-        rank,
-        ones.overflow,
-        zeros.overflow,
-    );
-    write_within(&mut *buffer, 6, high_len, true, ones, p.ones_at);
-    write_zeros(&mut *buffer, high_len, rank, zeros, p.zeros_at);
-}
-
-// Writes the image if it has room. Before that is known, nothing is written.
-fn write_if_room(
-    buffer: &mut [u64],
-    universe: u64,
-    num_vals: u64,
-    num_pushed: u64,
-    rank: bool,
-    high_len: usize,
-    p: Plan,
-) -> Built
-    requires { ⌜ Finishable universe «num_vals» «num_pushed» rank «high_len» p (now buffer) ⌝ }
-    ensures { λ r. ⌜ Finishes universe «num_vals» «num_pushed» rank (now (buffer .entry)) r (now (buffer .exit)) ⌝ }
-{
-    if buffer.len() < p.end {
-        return Built::Refused(Refusal::ShortBuffer);
-    }
-    write_image(
-        &mut *buffer,
-        universe,
-        num_vals,
-        num_pushed,
-        rank,
-        high_len,
-        p,
-    );
-    Built::Words(p.end)
-}
-
-// Makes an image of words that hold the times.
-pub fn make_image(
-    buffer: &mut [u64],
-    universe: u64,
-    num_vals: u64,
-    num_pushed: u64,
-    rank: bool,
-    low_len: usize,
-    high_len: usize,
-) -> Built
-    requires { ⌜ (Holding universe «num_vals» «num_pushed» (now buffer) × («low_len» ≡ lowLen universe «num_vals») × («high_len» ≡ highLen universe «num_vals»)) ⌝ }
-    ensures { λ r. ⌜ Finishes universe «num_vals» «num_pushed» rank (now (buffer .entry)) r (now (buffer .exit)) ⌝ }
-{
-    let low_at = 6 + words_for(high_len);
-    let ones_at = low_at + words_for(num_pushed as usize * low_len);
-    let p = plan_image(&buffer[6..low_at], high_len, rank, ones_at);
-    write_if_room(
-        &mut *buffer,
-        universe,
-        num_vals,
-        num_pushed,
-        rank,
-        high_len,
-        p,
-    )
+    write_header(&mut *buffer, b, rank, ones.overflow, zeros.overflow);
+    write_within(&mut *buffer, 6, p.high_len, true, ones, p.ones_at);
+    write_zeros(&mut *buffer, p.high_len, rank, zeros, p.zeros_at);
 }

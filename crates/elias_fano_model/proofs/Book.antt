@@ -24,7 +24,7 @@ use Rattle.elias_fano_words.proofs.Rising.{rising-none, rising-snoc, rising-lt,
 use Rattle.elias_fano.specs.declared.builder.Builder.{Builder}
 use Rattle.elias_fano.specs.Accept.{accepted}
 use Rattle.elias_fano.specs.Made.{Made, made, builder}
-use Rattle.elias_fano.specs.Steps.{newOf, sound, filed, pushOf, heldWords, heldTimes, intact, imageOf, buildOf}
+use Rattle.elias_fano.specs.Steps.{newOf, sound, timeTest, pushTest, filed, pushOf, heldWords, heldTimes, intact, imageOf, imageTest, buildTest, buildOf}
 use Rattle.elias_fano.proofs.Cases as cases
 use Rattle.elias_fano.proofs.Filing.{file-next}
 use Rattle.elias_fano.proofs.Images.{Fits, image-times, image-accepted}
@@ -122,7 +122,7 @@ module _ (u n : ℕ) (lent : List ℕ) (begun : Begun u n lent) where
       ∙ ap (λ (r : List ℕ). replicate 6 0 ++ (r ++ D)) (sym no-bits)
 
   start : newOf u n lent ≡ openBook u n lent done []
-  start = cases.new-done u n lent (begun .some) (begun .most) (begun .long) ∙ ap (made done (builder u n 0 0)) start-words
+  start = cases.new-done u n lent (cases.new-passed u n (length lent) (begun .some) (begun .most) (begun .long)) ∙ ap (made done (builder u n 0 0)) start-words
 
   -- ---- a push
 
@@ -141,6 +141,10 @@ module _ (u n : ℕ) (lent : List ℕ) (begun : Begun u n lent) where
   unfolding openWords
   file T t f a b c = file-next u n T t (f .rises) a b c (replicate 6 0) (drop (startLen u n) lent) refl (fit-zeros 6) (fit-drop (startLen u n) lent (begun .words))
 
+  -- only a time is tested
+  push-test : (T : List ℕ) (t : ℕ) → Fits u n T → pushTest (B T) t (length (W T)) ≡ timeTest (B T) t
+  push-test T t f = cases.builder-passed (B T) (length (W T)) (timeTest (B T) t) (numbers-sound T f) (long T)
+
   -- the contract's step shows what the model shows, and its list stays in order
   record Pushes (T : List ℕ) (t : ℕ) : Type 0 where
     shows : pushOf (B T) t (W T) ≡ openBook u n lent (answerTo u n lent T t) (after u n lent T t)
@@ -157,19 +161,19 @@ module _ (u n : ℕ) (lent : List ℕ) (begun : Begun u n lent) where
 
   push-by : (T : List ℕ) (t : ℕ) → Fits u n T → (x y z : Bool) → ltb t (lastOf T) ≡ x → leb u t ≡ y → eqb (length T) n ≡ z → Pushes T t
   push-by T t f true y z p q r =
-      pushes T t (refused 4) (answer-is u n lent T t ∙ simp p) refl (cases.push-4 (B T) t (W T) (numbers-sound T f) (long T) (ltb-true _ _ p)) f
+      pushes T t (refused 4) (answer-is u n lent T t ∙ simp p) refl (cases.push-refused (B T) t (W T) 4 (push-test T t f ∙ cases.time-4 (B T) t (ltb-true _ _ p))) f
   push-by T t f false true z p q r =
-      pushes T t (refused 5) (answer-is u n lent T t ∙ simp (p, q)) refl (cases.push-5 (B T) t (W T) (numbers-sound T f) (long T) (ltb-false _ _ p) (leb-true _ _ q)) f
+      pushes T t (refused 5) (answer-is u n lent T t ∙ simp (p, q)) refl (cases.push-refused (B T) t (W T) 5 (push-test T t f ∙ cases.time-5 (B T) t (ltb-false _ _ p) (leb-true _ _ q))) f
   push-by T t f false false true p q r =
       pushes T t (refused 6) (answer-is u n lent T t ∙ simp (p, q, r)) refl
-      (cases.push-6 (B T) t (W T) (numbers-sound T f) (long T) (ltb-false _ _ p) (leb-false _ _ q) (eqb-true _ _ r)) f
+      (cases.push-refused (B T) t (W T) 6 (push-test T t f ∙ cases.time-6 (B T) t (ltb-false _ _ p) (leb-false _ _ q) (eqb-true _ _ r))) f
   push-by T t f false false false p q r =
       let a : lastOf T ≤ t = ltb-false _ _ p in
       let b : t < u = leb-false _ _ q in
       let ne = eqb-false (length T) n r in
       let c : length T < n = omega (arith, f .few) in
       pushes T t done (answer-is u n lent T t ∙ simp (p, q, r)) refl
-      (cases.push-done (B T) t (W T) (numbers-sound T f) (long T) a b ne
+      (cases.push-done (B T) t (W T) (push-test T t f ∙ cases.time-passed (B T) t a b ne)
       ∙ ap₂ (made done) (ap₂ (builder u n) (sym (length-append T (t ∷ []))) (sym (lastOf-snoc T t))) (file T t f a b c))
       (fits-more T t f a b c)
 
@@ -203,14 +207,18 @@ module _ (u n : ℕ) (lent : List ℕ) (begun : Begun u n lent) where
     unfolding imageOf
     image-is c = ap (image u n c) held-times
 
+    -- only the image's length is tested
+    build-test : (c : Bool) → buildTest (B T) c (W T) ≡ imageTest (B T) c (W T)
+    build-test c = cases.builder-passed (B T) (length (W T)) (imageTest (B T) c (W T)) (numbers-sound T f) (long T)
+
     -- the contract's step shows what the model shows
     build-by : (c t : Bool) → ltb (length lent) (length (image u n c T)) ≡ t → buildOf (B T) c (W T) ≡ cond t (openBook u n lent (refused 3) T) (closedBook u n lent c T)
     build-by c true e =
         let h : length (W T) < length (imageOf (B T) c (W T)) = subst (λ (x : List ℕ). length (W T) < length x) (sym (image-is c)) (subst (λ (y : ℕ). y < length (image u n c T)) (sym (length-words T)) (ltb-true _ _ e)) in
-        cases.build-3-image (B T) c (W T) (numbers-sound T f) (long T) held-intact h
+        cases.build-refused (B T) c (W T) 3 (build-test c ∙ cases.image-3 (B T) c (W T) held-intact h)
     build-by c false e =
         let h : length (imageOf (B T) c (W T)) ≤ length (W T) = subst (λ (x : List ℕ). length x ≤ length (W T)) (sym (image-is c)) (subst (λ (y : ℕ). length (image u n c T) ≤ y) (sym (length-words T)) (ltb-false _ _ e)) in
-        cases.build-done (B T) c (W T) (numbers-sound T f) (long T) held-intact h
+        cases.build-done (B T) c (W T) (build-test c ∙ cases.image-passed (B T) c (W T) held-intact h)
         ∙ ap (λ (x : List ℕ). made (value (length x)) (B T) (x ++ drop (length x) (W T))) (image-is c)
 
   -- ---- every call

@@ -168,10 +168,10 @@ module _ (u n : ℕ) (calls lent answers : List ℕ) where
     -- the start was accepted
     begun-by : u < 2 ^ 64 → Words lent → (b : Builder) (w : List ℕ) → made done b w ≡ newOf u n lent → (x y z : Bool) → eqb n 0 ≡ x → ltb 16777216 n ≡ y → ltb (length lent) (startLen u n) ≡ z
         → wentOn b w answers calls ≡ runOf u n calls lent answers
-    begun-by hu hw b w e true y z p q r = absurd (done-not 1 (answer-of done b w (made (refused 1) nobody lent) e (cases.new-1 u n lent (eqb-true _ _ p))))
-    begun-by hu hw b w e false true z p q r = absurd (done-not 2 (answer-of done b w (made (refused 2) nobody lent) e (cases.new-2 u n lent (ltb-true _ _ q))))
+    begun-by hu hw b w e true y z p q r = absurd (done-not 1 (answer-of done b w (made (refused 1) nobody lent) e (cases.new-refused u n lent 1 (cases.new-1 u n (length lent) (eqb-true _ _ p)))))
+    begun-by hu hw b w e false true z p q r = absurd (done-not 2 (answer-of done b w (made (refused 2) nobody lent) e (cases.new-refused u n lent 2 (cases.new-2 u n (length lent) (ltb-true _ _ q)))))
     begun-by hu hw b w e false false true p q r =
-        absurd (done-not 3 (answer-of done b w (made (refused 3) nobody lent) e (cases.new-3 u n lent (eqb-false _ _ p) (ltb-false _ _ q) (ltb-true _ _ r))))
+        absurd (done-not 3 (answer-of done b w (made (refused 3) nobody lent) e (cases.new-refused u n lent 3 (cases.new-3 u n (length lent) (eqb-false _ _ p) (ltb-false _ _ q) (ltb-true _ _ r)))))
     begun-by hu hw b w e false false false p q r =
         by-model u n calls lent answers (record { a-universe = hu; some = eqb-false _ _ p; most = ltb-false _ _ q; long = ltb-false _ _ r; words = hw }) b w e
         ∙ sym (run-all (eqb-false _ _ p) (ltb-false _ _ q) (ltb-false _ _ r))
@@ -187,12 +187,12 @@ module _ (u n : ℕ) (calls lent answers : List ℕ) where
 
     refused-by : (k : ℕ) (w : List ℕ) → made (refused k) nobody w ≡ newOf u n lent → (x y z : Bool) → eqb n 0 ≡ x → ltb 16777216 n ≡ y → ltb (length lent) (startLen u n) ≡ z
         → left (unbegun k) w answers ≡ runOf u n calls lent answers
-    refused-by k w e true y z p q r = same k 1 w e (cases.new-1 u n lent (eqb-true _ _ p)) (run-1 (eqb-true _ _ p))
-    refused-by k w e false true z p q r = same k 2 w e (cases.new-2 u n lent (ltb-true _ _ q)) (run-2 (eqb-false _ _ p) (ltb-true _ _ q))
+    refused-by k w e true y z p q r = same k 1 w e (cases.new-refused u n lent 1 (cases.new-1 u n (length lent) (eqb-true _ _ p))) (run-1 (eqb-true _ _ p))
+    refused-by k w e false true z p q r = same k 2 w e (cases.new-refused u n lent 2 (cases.new-2 u n (length lent) (ltb-true _ _ q))) (run-2 (eqb-false _ _ p) (ltb-true _ _ q))
     refused-by k w e false false true p q r =
-        same k 3 w e (cases.new-3 u n lent (eqb-false _ _ p) (ltb-false _ _ q) (ltb-true _ _ r)) (run-3 (eqb-false _ _ p) (ltb-false _ _ q) (ltb-true _ _ r))
+        same k 3 w e (cases.new-refused u n lent 3 (cases.new-3 u n (length lent) (eqb-false _ _ p) (ltb-false _ _ q) (ltb-true _ _ r))) (run-3 (eqb-false _ _ p) (ltb-false _ _ q) (ltb-true _ _ r))
     refused-by k w e false false false p q r =
-        absurd (refused-not k (answer-of (refused k) nobody w _ e (cases.new-done u n lent (eqb-false _ _ p) (ltb-false _ _ q) (ltb-false _ _ r))))
+        absurd (refused-not k (answer-of (refused k) nobody w _ e (cases.new-done u n lent (cases.new-passed u n (length lent) (eqb-false _ _ p) (ltb-false _ _ q) (ltb-false _ _ r)))))
 
     pub refuses : (p : Pushed) (k : Refusal) (w : List ℕ) → ofPushed nobody p w ≡ newOf u n lent → p ≡ pushed.Refused k → left (unbegun (numberOf k)) w answers ≡ runOf u n calls lent answers
     refuses p k w e q = refused-by (numberOf k) w (sym (ap (λ (x : Pushed). ofPushed nobody x w) q) ∙ e) (eqb n 0) (ltb 16777216 n) (ltb (length lent) (startLen u n)) refl refl refl

@@ -1,12 +1,19 @@
--- `elias_fano::builder::is_intact` meets its contract.
--- Assumes nothing.
 use borrow.Author.Needs.{needs}
-use Rattle.elias_fano.proofs.Intact as intact
+use Rattle.elias_fano.proofs.Testing as testing
 use Rattle.elias_fano.proofs.builder.is_intact.Statement.{statement}
 use Rattle.elias_fano.proofs.builder.is_intact.Tie as tie
 
+sub-check : tie.Need-sub-check
+sub-check c = testing.six-le _ (c .before .args .words .now) _ (c .before .pre)
+
+part-check-start : tie.Need-part-check-start
+part-check-start c = testing.six-le _ (c .before .args .words .now) _ (c .before .pre)
+
+part-check-end : tie.Need-part-check-end
+part-check-end c = testing.start-le _ (c .before .args .words .now) _ (c .before .pre)
+
 check-requires : tie.Need-check-requires
-check-requires c κs = search needs
+check-requires c κs = testing.checkable _ (c .before .before .args .words .now) _ (c .before .before .pre)
 
 enum-known-last : tie.Need-enum-known-last
 enum-known-last c = search needs
@@ -15,10 +22,20 @@ enum-told : tie.Need-enum-told
 enum-told c = search needs
 
 returns : tie.Need-returns
-returns c = intact.is-last (c .before .before .before .before .before .before .args .b) (c .before .before .before .before .before .before .args .words .now) _ (c .before .before .before .before .check .ensures) (c .before .before .last .given .0 .0) (c .before .before .last .given .1)
+returns c = testing.is-last _ (c .before .before .before .before .before .before .before .args .words .now) _ (c .before .before .before .before .before .before .before .pre) _ (c .before .before .before .before .check .ensures) _ (c .before .before .last .given .1)
 
 returns-2 : tie.Need-returns-2
-returns-2 c = intact.is-wrong (c .before .before .before .before .args .b) (c .before .before .before .before .args .words .now) _ (c .before .before .check .ensures) (c .enum-told .given .1)
+returns-2 c = testing.is-wrong _ (c .before .before .before .before .before .args .words .now) _ (c .before .before .before .before .before .pre) _ (c .before .before .check .ensures) (c .enum-told .given .1)
 
 pub is-intact-spec : {M : Type 1} → statement M
-is-intact-spec = tie.close (tie.spec check-requires enum-known-last enum-told returns returns-2)
+is-intact-spec =
+    tie.close
+    (tie.spec
+    sub-check
+    part-check-start
+    part-check-end
+    check-requires
+    enum-known-last
+    enum-told
+    returns
+    returns-2)

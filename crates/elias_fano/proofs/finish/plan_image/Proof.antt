@@ -1,39 +1,50 @@
--- `elias_fano::finish::plan_image` meets its contract.
--- Assumes nothing.
 use borrow.Author.Needs.{needs}
-use Rattle.elias_fano.proofs.Planning as planning
+use native.Mathlib.Omega.{arith}
+use Rattle.elias_fano.proofs.Finished as finished
 use Rattle.elias_fano.proofs.finish.plan_image.Statement.{statement}
 use Rattle.elias_fano.proofs.finish.plan_image.Tie as tie
 
-sizes-over-requires : tie.Need-sizes-over-requires
-sizes-over-requires c κs = search needs
+words-for-requires : tie.Need-words-for-requires
+words-for-requires c κs = search needs
 
-zeros-sizes-requires : tie.Need-zeros-sizes-requires
-zeros-sizes-requires c κs = search needs
+add-low-at : tie.Need-add-low-at
+add-low-at c = search needs
 
-index-words-requires : tie.Need-index-words-requires
-index-words-requires c κs = planning.ones-small (c .before .before .before .args .rank) (c .before .before .before .args .high .now) (c .before .before .before .args .len) (c .before .before .before .pre .0) (c .before .sizes-over .result) (c .zeros-sizes .result) (c .before .sizes-over .ensures) (c .zeros-sizes .ensures)
+mul-words-for : tie.Need-mul-words-for
+mul-words-for c = let s = c .before .before in finished.product-fits (s .args .b) (s .args .words .now) (s .pre .0) (omega (arith, s .good .1 .0)) (s .args .low-len) (s .args .high-len) (s .pre .1) (s .pre .2)
 
-add-zeros-at : tie.Need-add-zeros-at
-add-zeros-at c = planning.ones-fit (c .before .before .before .before .args .rank) (c .before .before .before .before .args .high .now) (c .before .before .before .before .args .len) (c .before .before .before .before .pre .0) (c .before .before .sizes-over .result) (c .before .zeros-sizes .result) (c .before .before .sizes-over .ensures) (c .before .zeros-sizes .ensures) (c .before .before .before .before .args .at) (c .index-words .result) (c .before .before .before .before .pre .1) (c .index-words .ensures)
+words-for-requires-2 : tie.Need-words-for-requires-2
+words-for-requires-2 c κs = search needs
 
-index-words-requires-2 : tie.Need-index-words-requires-2
-index-words-requires-2 c κs = planning.zeros-small (c .before .before .before .before .args .rank) (c .before .before .before .before .args .high .now) (c .before .before .before .before .args .len) (c .before .before .before .before .pre .0) (c .before .before .sizes-over .result) (c .before .zeros-sizes .result) (c .before .before .sizes-over .ensures) (c .before .zeros-sizes .ensures)
+add-ones-at : tie.Need-add-ones-at
+add-ones-at c = let s = c .before .before .before in finished.ones-fits (s .args .b) (s .args .words .now) (s .pre .0) (omega (arith, s .good .1 .0)) (s .args .low-len) (s .args .high-len) (s .pre .1) (s .pre .2) _ _ (c .before .words-for .ensures) (c .words-for2 .ensures)
 
-add-t9 : tie.Need-add-t9
-add-t9 c = planning.zeros-fit (c .before .before .before .before .before .args .rank) (c .before .before .before .before .before .args .high .now) (c .before .before .before .before .before .args .len) (c .before .before .before .before .before .pre .0) (c .before .before .before .sizes-over .result) (c .before .before .zeros-sizes .result) (c .before .before .before .sizes-over .ensures) (c .before .before .zeros-sizes .ensures) (c .before .before .before .before .before .args .at) (c .before .index-words .result) (c .before .before .before .before .before .pre .1) (c .before .index-words .ensures) (c .index-words2 .result) (c .index-words2 .ensures)
+sub-plan-indexes : tie.Need-sub-plan-indexes
+sub-plan-indexes c = search needs
+
+part-plan-indexes-start : tie.Need-part-plan-indexes-start
+part-plan-indexes-start c = search needs
+
+part-plan-indexes-end : tie.Need-part-plan-indexes-end
+part-plan-indexes-end c = let s = c .before .before .before in finished.high-in (s .args .b) (s .args .words .now) (s .pre .0) (omega (arith, s .good .1 .0)) (s .args .low-len) (s .args .high-len) (s .pre .1) (s .pre .2) _ _ (c .before .words-for .ensures) (c .words-for2 .ensures)
+
+plan-indexes-requires : tie.Need-plan-indexes-requires
+plan-indexes-requires c κs = let s = c .before .before .before .before in finished.plan-ready (s .args .b) (s .args .words .now) (s .pre .0) (omega (arith, s .good .1 .0)) (s .args .low-len) (s .args .high-len) (s .pre .1) (s .pre .2) _ _ (c .before .before .words-for .ensures) (c .before .words-for2 .ensures)
 
 returns : tie.Need-returns
-returns c = planning.is-planned (c .before .before .before .before .before .args .rank) (c .before .before .before .before .before .args .high .now) (c .before .before .before .before .before .args .len) (c .before .before .before .before .before .pre .0) (c .before .before .before .sizes-over .result) (c .before .before .zeros-sizes .result) (c .before .before .before .sizes-over .ensures) (c .before .before .zeros-sizes .ensures) (c .before .before .before .before .before .args .at) (c .before .index-words .result) (c .before .before .before .before .before .pre .1) (c .before .index-words .ensures) (c .index-words2 .result) (c .index-words2 .ensures)
+returns c = let s = c .before .before .before .before .before in finished.finishable (s .args .b) (s .args .words .now) (s .pre .0) (omega (arith, s .good .1 .0)) (s .args .low-len) (s .args .high-len) (s .pre .1) (s .pre .2) _ _ (c .before .before .before .words-for .ensures) (c .before .before .words-for2 .ensures) (c .before .before .before .before .before .args .rank) _ (c .plan-indexes .ensures)
 
 pub plan-image-spec : {M : Type 1} → statement M
 plan-image-spec =
     tie.close
     (tie.spec
-    sizes-over-requires
-    zeros-sizes-requires
-    index-words-requires
-    add-zeros-at
-    index-words-requires-2
-    add-t9
+    words-for-requires
+    add-low-at
+    mul-words-for
+    words-for-requires-2
+    add-ones-at
+    sub-plan-indexes
+    part-plan-indexes-start
+    part-plan-indexes-end
+    plan-indexes-requires
     returns)

@@ -1,8 +1,6 @@
--- `elias_fano::finish::write_header` meets its contract.
--- Assumes nothing.
 use borrow.Author.Needs.{needs}
-use native.Mathlib.Omega.{arith}
 use Prim.Native.Nat.{_<_}
+use native.Mathlib.Omega.{arith}
 use lib.ListN.{length}
 use Rattle.elias_fano.proofs.Planning as planning
 use Rattle.elias_fano.proofs.finish.write_header.Statement.{statement}
@@ -33,7 +31,7 @@ same-length : tie.Need-same-length
 same-length c = search needs
 
 returns : tie.Need-returns
-returns c = planning.header-set (c .args .buffer .now) (c .args .universe) (c .args .num-vals) (c .args .num-pushed) _ (c .args .ones) (c .args .zeros) (c .pre)
+returns c = let a = c .args in planning.header-set (a .buffer .now) (a .b .universe) (a .b .«num_vals») (a .b .«num_pushed») _ (a .ones) (a .zeros) (c .pre)
 
 pub write-header-spec : {M : Type 1} → statement M
 write-header-spec =

@@ -1,0 +1,25 @@
+use borrow.Author.Needs.{needs}
+use mathlib.Core.Path.{sym, _∙_}
+use borrow.Author.Tests.{not-true, not-false}
+use Rattle.elias_fano.proofs.Testing as testing
+use Rattle.elias_fano.proofs.builder.test_image.Statement.{statement}
+use Rattle.elias_fano.proofs.builder.test_image.Tie as tie
+
+is-intact-requires : tie.Need-is-intact-requires
+is-intact-requires c κs = search needs
+
+returns : tie.Need-returns
+returns c = testing.bits-refused _ (c .before .before .before .args .words .now) _ (c .before .before .before .pre) _ (sym (c .before .is-intact .ensures) ∙ not-true _ (c .if1 .taken))
+
+plan-image-requires : tie.Need-plan-image-requires
+plan-image-requires c κs = testing.plannable _ (c .before .before .before .args .words .now) _ (c .before .before .before .pre) (sym (c .before .is-intact .ensures) ∙ not-false _ (c .if1 .left))
+
+returns-2 : tie.Need-returns-2
+returns-2 c = testing.image-refused _ (c .before .before .before .before .before .before .args .words .now) _ (c .before .before .before .before .before .before .pre) _ _ (c .before .before .plan-image .ensures) (c .if2 .taken)
+
+returns-3 : tie.Need-returns-3
+returns-3 c = search needs
+
+pub test-image-spec : {M : Type 1} → statement M
+test-image-spec =
+    tie.close (tie.spec is-intact-requires returns plan-image-requires returns-2 returns-3)

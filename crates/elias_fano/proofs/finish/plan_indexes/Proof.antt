@@ -1,0 +1,37 @@
+use borrow.Author.Needs.{needs}
+use Rattle.elias_fano.proofs.Planning as planning
+use Rattle.elias_fano.proofs.finish.plan_indexes.Statement.{statement}
+use Rattle.elias_fano.proofs.finish.plan_indexes.Tie as tie
+
+sizes-over-requires : tie.Need-sizes-over-requires
+sizes-over-requires c κs = search needs
+
+zeros-sizes-requires : tie.Need-zeros-sizes-requires
+zeros-sizes-requires c κs = search needs
+
+index-words-requires : tie.Need-index-words-requires
+index-words-requires c κs = let s = c .before .before .before in planning.ones-small (s .args .rank) (s .args .high .now) (s .args .len) (s .pre .0) _ _ (c .before .sizes-over .ensures) (c .zeros-sizes .ensures)
+
+add-zeros-at : tie.Need-add-zeros-at
+add-zeros-at c = let s = c .before .before .before .before in planning.ones-fit (s .args .rank) (s .args .high .now) (s .args .len) (s .pre .0) _ _ (c .before .before .sizes-over .ensures) (c .before .zeros-sizes .ensures) (s .args .at) _ (s .pre .1) (c .index-words .ensures)
+
+index-words-requires-2 : tie.Need-index-words-requires-2
+index-words-requires-2 c κs = let s = c .before .before .before .before in planning.zeros-small (s .args .rank) (s .args .high .now) (s .args .len) (s .pre .0) _ _ (c .before .before .sizes-over .ensures) (c .before .zeros-sizes .ensures)
+
+add-t9 : tie.Need-add-t9
+add-t9 c = let s = c .before .before .before .before .before in planning.zeros-fit (s .args .rank) (s .args .high .now) (s .args .len) (s .pre .0) _ _ (c .before .before .before .sizes-over .ensures) (c .before .before .zeros-sizes .ensures) (s .args .at) _ (s .pre .1) (c .before .index-words .ensures) _ (c .index-words2 .ensures)
+
+returns : tie.Need-returns
+returns c = let s = c .before .before .before .before .before in planning.is-planned (s .args .rank) (s .args .high .now) (s .args .len) (s .pre .0) _ _ (c .before .before .before .sizes-over .ensures) (c .before .before .zeros-sizes .ensures) (s .args .at) _ (s .pre .1) (c .before .index-words .ensures) _ (c .index-words2 .ensures)
+
+pub plan-indexes-spec : {M : Type 1} → statement M
+plan-indexes-spec =
+    tie.close
+    (tie.spec
+    sizes-over-requires
+    zeros-sizes-requires
+    index-words-requires
+    add-zeros-at
+    index-words-requires-2
+    add-t9
+    returns)
