@@ -4,12 +4,16 @@ use mathlib.Core.List.{List}
 use mathlib.Core.Bool.{Bool, true, false, cond}
 use Prim.Native.Nat.{ℕ, _+_, _-_, _^_, _≤_, _<_}
 use native.Mathlib.Omega.{arith}
+use borrow.Author.Tests.{leb-true, leb-false, eqb-true, eqb-false}
+use lib.Dec.{eqb, leb}
 use mir.Syntax.{w64}
 use mir.Val.{Fits}
 use lib.ListN.{length, getD}
+use Rattle.darray.specs.Pending.{Decides}
+use Rattle.darray.proofs.Matching.{it-is, it-is-not}
 use Rattle.elias_fano.specs.declared.image.Parts.{Parts}
 use Rattle.elias_fano.specs.Accept.{universe, declared, pushed, ranked, accepted, indexLen, partsBy, partsOf}
-use Rattle.elias_fano.specs.Opening.{highOf, zerosIn, endIn, Headed}
+use Rattle.elias_fano.specs.Opening.{highOf, zerosIn, endIn, Counts, Limits, Whole, Headed}
 use Rattle.elias_fano.proofs.Accepting.{found}
 use Rattle.elias_fano.proofs.Limits as limits
 
@@ -17,31 +21,58 @@ fifth-le : (b : Bool) (k x : ℕ) → (b ≡ false → x ≡ 0) → x ≤ cond b
 fifth-le true k x z = omega arith
 fifth-le false k x z = let e = z refl in omega arith
 
+true-false : true ≡ false → ⊥
+true-false x = let z : _≡_ {A = ℕ} 0 1 = cc in omega arith
+
+-- ---- the limits
+
+module _ (n m c : ℕ) where
+  pub none-declared : n ≡ 0 → Decides false (Counts n m c)
+  none-declared h = it-is-not (λ (l : Counts n m c). omega (arith, l .some))
+
+  pub many-declared : 16777216 < n → Decides false (Counts n m c)
+  many-declared h = it-is-not (λ (l : Counts n m c). omega (arith, l .most))
+
+  pub past-declared : n < m → Decides false (Counts n m c)
+  past-declared h = it-is-not (λ (l : Counts n m c). omega (arith, l .few))
+
+  pub choice : (n ≡ 0 → ⊥) → n ≤ 16777216 → m ≤ n → Decides (leb c 1) (Counts n m c)
+  choice some most few = go (leb c 1) refl
+    where
+      go : (b : Bool) → leb c 1 ≡ b → Decides b (Counts n m c)
+      go true e = it-is (record { some = omega (arith, some); most = most; few = few; choice = leb-true c 1 e })
+      go false e = it-is-not (λ (l : Counts n m c). omega (arith, leb-false c 1 e, l .choice))
+
 module _ (i : List ℕ) where
-  pub short : length i < 6 → accepted i ≡ true → ⊥
-  short h a = let f = found i a .head .six in omega arith
+  pub short : length i < 6 → Decides false (Limits i)
+  short h = it-is-not (λ (l : Limits i). omega (arith, l .six))
 
-  pub none-declared : declared i ≡ 0 → accepted i ≡ true → ⊥
-  none-declared h a = let f = found i a .head .some in omega arith
+  pub other-counts : (Counts (declared i) (pushed i) (getD i 3 0) → ⊥) → Decides false (Limits i)
+  other-counts h = it-is-not (λ (l : Limits i). h (l .counts))
 
-  pub many-declared : 16777216 < declared i → accepted i ≡ true → ⊥
-  many-declared h a = let f = found i a .head .most in omega arith
+  pub long-ones : length i < getD i 4 0 → Decides false (Limits i)
+  long-ones h = it-is-not (λ (l : Limits i). omega (arith, l .ones))
 
-  pub past-declared : declared i < pushed i → accepted i ≡ true → ⊥
-  past-declared h a = let f = found i a .head .few in omega arith
+  pub zeros : 6 ≤ length i → Counts (declared i) (pushed i) (getD i 3 0) → getD i 4 0 ≤ length i → Decides (leb (getD i 5 0) (length i)) (Limits i)
+  zeros six counts ones = go (leb (getD i 5 0) (length i)) refl
+    where
+      go : (b : Bool) → leb (getD i 5 0) (length i) ≡ b → Decides b (Limits i)
+      go true e = it-is (record { six = six; counts = counts; ones = ones; zeros = leb-true _ _ e })
+      go false e = it-is-not (λ (l : Limits i). omega (arith, leb-false (getD i 5 0) (length i) e, l .zeros))
 
-  pub no-choice : 1 < getD i 3 0 → accepted i ≡ true → ⊥
-  no-choice h a = let f = found i a .head .choice in omega arith
-
-  pub long-fourth : length i < getD i 4 0 → accepted i ≡ true → ⊥
-  long-fourth h a = let f = found i a .head .long in omega arith
-
-  pub long-fifth : length i < getD i 5 0 → accepted i ≡ true → ⊥
-  long-fifth h a =
+  pub limits-of : accepted i ≡ true → Limits i
+  limits-of a =
       let f = found i a .head in
       let l = f .long in
       let z = fifth-le (ranked i) (highOf i - pushed i) (getD i 5 0) (f .none) in
-      omega arith
+      record {
+        six = f .six;
+        counts = record { some = f .some; most = f .most; few = f .few; choice = f .choice };
+        ones = omega arith;
+        zeros = omega arith;
+      }
+
+  -- ---- the parts and the length
 
   module _ (p : Parts) (z : ℕ) (ep : p ≡ partsOf i) (ez : z ≡ cond (p .rank) (indexLen (p .«high_len» - p .«num_pushed») (getD i 5 0)) 0) where
     rank-is : p .rank ≡ ranked i
@@ -63,55 +94,64 @@ module _ (i : List ℕ) where
     end-is : p .«zeros_at» + z ≡ endIn i
     end-is = ap₂ (λ (a b : ℕ). a + b) zeros-is (ez ∙ (λ x. cond (rank-is x) (indexLen (high-is x - pushed-is x) (getD i 5 0)) 0))
 
-    pub other-length : (p .«zeros_at» + z ≡ length i → ⊥) → accepted i ≡ true → ⊥
-    other-length h a = h (end-is ∙ sym (found i a .head .long))
+    pub other-length : (p .«zeros_at» + z ≡ length i → ⊥) → Decides false (Whole i)
+    other-length h = it-is-not (λ (w : Whole i). h (end-is ∙ sym (w .long)))
 
-    pub no-zeros : p .rank ≡ false → (getD i 5 0 ≡ 0 → ⊥) → accepted i ≡ true → ⊥
-    no-zeros r h a = h (found i a .head .none (sym rank-is ∙ r))
+    module _ (e : p .«zeros_at» + z ≡ length i) where
+      pub with-rank : p .rank ≡ true → Decides true (Whole i)
+      with-rank r = it-is (record { none = λ f. absurd (true-false (sym r ∙ rank-is ∙ f)); long = sym e ∙ end-is })
 
-    module _ (six : 6 ≤ length i) (some : declared i ≡ 0 → ⊥) (most : declared i ≤ 16777216) (few : pushed i ≤ declared i) (choice : getD i 3 0 ≤ 1) (e : p .«zeros_at» + z ≡ length i) where
-      heads : (ranked i ≡ false → getD i 5 0 ≡ 0) → Headed i
-      heads n = record { six = six; some = omega (arith, some); most = most; few = few; choice = choice; none = n; long = sym e ∙ end-is }
-
-      pub with-rank : p .rank ≡ true → (p ≡ partsOf i) × Headed i
-      with-rank r = (ep, heads (λ f. absurd (true-false (sym r ∙ rank-is ∙ f))))
+      pub without-rank : p .rank ≡ false → Decides (eqb (getD i 5 0) 0) (Whole i)
+      without-rank r = go (eqb (getD i 5 0) 0) refl
         where
-          true-false : true ≡ false → ⊥
-          true-false x = let z : _≡_ {A = ℕ} 0 1 = cc in omega arith
+          go : (b : Bool) → eqb (getD i 5 0) 0 ≡ b → Decides b (Whole i)
+          go true d = it-is (record { none = λ _. eqb-true _ _ d; long = sym e ∙ end-is })
+          go false d = it-is-not (λ (w : Whole i). eqb-false _ _ d (w .none (sym rank-is ∙ r)))
 
-      pub without-rank : getD i 5 0 ≡ 0 → (p ≡ partsOf i) × Headed i
-      without-rank h = (ep, heads (λ _. h))
+  pub whole-of : accepted i ≡ true → Whole i
+  whole-of a = let f = found i a .head in record { none = f .none; long = f .long }
+
+  pub heads : Limits i → Whole i → Headed i
+  heads g w = record {
+    six = g .six;
+    some = g .counts .some;
+    most = g .counts .most;
+    few = g .counts .few;
+    choice = g .counts .choice;
+    none = w .none;
+    long = w .long;
+  }
 
   -- ---- the sizes in range
 
-  module _ (hu : universe i < 2 ^ 64) (some : declared i ≡ 0 → ⊥) (most : declared i ≤ 16777216) (few : pushed i ≤ declared i) (p : Parts) (ep : p ≡ partsOf i) where
-    positive : 0 < declared i
-    positive = omega (arith, some)
-
+  module _ (hu : universe i < 2 ^ 64) (g : Limits i) (p : Parts) (ep : p ≡ partsOf i) where
     pub high-small : p .«high_len» < 2 ^ 32
     unfolding partsBy
-    high-small = let e : p .«high_len» ≡ highOf i = ap (λ (q : Parts). q .«high_len») ep in let h = limits.high-small (universe i) (declared i) (pushed i) hu positive most few in omega arith
+    high-small = let e : p .«high_len» ≡ highOf i = ap (λ (q : Parts). q .«high_len») ep in let h = limits.high-small (universe i) (declared i) (pushed i) hu (g .counts .some) (g .counts .most) (g .counts .few) in omega arith
 
     pub pushed-le : p .«num_pushed» ≤ p .«high_len»
     unfolding partsBy
     pushed-le =
         let e : p .«high_len» ≡ highOf i = ap (λ (q : Parts). q .«high_len») ep in
         let d : p .«num_pushed» ≡ pushed i = ap (λ (q : Parts). q .«num_pushed») ep in
-        let h = limits.pushed-le (universe i) (declared i) (pushed i) hu positive most few in
+        let h = limits.pushed-le (universe i) (declared i) (pushed i) hu (g .counts .some) (g .counts .most) (g .counts .few) in
         omega arith
 
     index-small : (b : Bool) (k x : ℕ) → k ≤ 50331649 → cond b (indexLen k x) 0 ≤ 100000000 + x
     index-small true k x h = omega arith
     index-small false k x h = omega arith
 
-    pub end-fits : (z : ℕ) → z ≡ cond (p .rank) (indexLen (p .«high_len» - p .«num_pushed») (getD i 5 0)) 0 → getD i 4 0 < 2 ^ 62 → getD i 5 0 < 2 ^ 62 → Fits w64 (p .«zeros_at» + z)
+    pub end-fits : (z : ℕ) → z ≡ cond (p .rank) (indexLen (p .«high_len» - p .«num_pushed») (getD i 5 0)) 0 → length i < 2 ^ 62 → Fits w64 (p .«zeros_at» + z)
     unfolding partsBy
-    end-fits z ez h4 h5 = record {
+    end-fits z ez few = record {
       fits =
+          let h4 = g .ones in
+          let h5 = g .zeros in
           let e : p .«high_len» ≡ highOf i = ap (λ (q : Parts). q .«high_len») ep in
           let d : p .«zeros_at» ≡ zerosIn i = ap (λ (q : Parts). q .«zeros_at») ep in
-          let a = limits.high-small (universe i) (declared i) (pushed i) hu positive most few in
-          let b = limits.product-small (universe i) (declared i) (pushed i) hu positive most few in
-          let g = index-small (p .rank) (p .«high_len» - p .«num_pushed») (getD i 5 0) (omega arith) in
+          let a = limits.high-small (universe i) (declared i) (pushed i) hu (g .counts .some) (g .counts .most) (g .counts .few) in
+          let b = limits.product-small (universe i) (declared i) (pushed i) hu (g .counts .some) (g .counts .most) (g .counts .few) in
+          let k = g .counts in
+          let x = index-small (p .rank) (p .«high_len» - p .«num_pushed») (getD i 5 0) (omega arith) in
           omega arith;
     }

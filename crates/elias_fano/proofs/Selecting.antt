@@ -144,9 +144,13 @@ module _ (i : List ℕ) (ok : accepted i ≡ true) (p : Parts) (ep : p ≡ parts
     pub some-place : (r : Found) → r ≡ select (bitOver true (take (p .«low_at» - 6) (drop 6 i))) (p .«high_len») k → r ≡ Nothing → ⊥
     some-place r er e = at-nothing (placeOf l T k) (sym e ∙ er ∙ place-is)
 
-    module _ (r : Found) (x : ℕ) (er : r ≡ select (bitOver true (take (p .«low_at» - 6) (drop 6 i))) (p .«high_len») k) (e : r ≡ At x) where
+    pub is-value : (v : ℕ) → v ≡ t → value v ≡ timeOf i k
+    unfolding timeOf
+    is-value v e = ap value e ∙ sym (simp (lt-ltb k (length T) in-list))
+
+    module _ (x : ℕ) (e : select (bitOver true (take (p .«low_at» - 6) (drop 6 i))) (p .«high_len») k ≡ At x) where
       here : x ≡ placeOf l T k
-      here = at-inj x (placeOf l T k) (sym e ∙ er ∙ place-is)
+      here = at-inj x (placeOf l T k) (sym e ∙ place-is)
 
       pub after : k ≤ x
       after = let a = here in omega arith
@@ -166,15 +170,11 @@ module _ (i : List ℕ) (ok : accepted i ≡ true) (p : Parts) (ep : p ≡ parts
         shifted : ((x - k) * 2 ^ p .«low_len») % 2 ^ 64 ≡ t / 2 ^ l * 2 ^ l
         shifted = ap₂ (λ (y z : ℕ). (y * 2 ^ z) % 2 ^ 64) upper low-len-is ∙ mod-eq-of-lt {n = t / 2 ^ l * 2 ^ l} {m = 2 ^ 64} small
 
-        time-is : ((x - k) * 2 ^ p .«low_len») % 2 ^ 64 + low ≡ t
+        pub time-is : ((x - k) * 2 ^ p .«low_len») % 2 ^ 64 + low ≡ t
         time-is = ap₂ (λ (a b : ℕ). a + b) shifted lower ∙ split t l
 
         pub time-fits : Fits w64 (((x - k) * 2 ^ p .«low_len») % 2 ^ 64 + low)
         time-fits = record { fits = subst (λ (y : ℕ). y < 2 ^ 64) (sym time-is) time-small }
-
-        pub is-time : value (((x - k) * 2 ^ p .«low_len») % 2 ^ 64 + low) ≡ timeOf i k
-        unfolding timeOf
-        is-time = ap value time-is ∙ sym (simp (lt-ltb k (length T) in-list))
 
   pub no-time : (k : ℕ) → p .«num_pushed» ≤ k → none ≡ timeOf i k
   unfolding timeOf

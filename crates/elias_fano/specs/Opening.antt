@@ -4,8 +4,9 @@ use mathlib.Core.List.{List, []}
 use mathlib.Core.Bool.{true, false, cond}
 use Prim.Native.Nat.{ℕ, _+_, _-_, _*_, _≤_, _<_}
 use lib.ListN.{length, getD, take, drop}
-use Rattle.broadword.specs.Places.{SelectInByte}
-use Rattle.bit_words.specs.Vector.{wordsFor}
+use Rattle.broadword.specs.Places.{SelectInByte, select}
+use Rattle.broadword.specs.declared.Found.the-variants.{At}
+use Rattle.bit_words.specs.Vector.{wordsFor, bitOver}
 use Rattle.darray.specs.Index.{indexWords}
 use Rattle.darray.specs.Positions.{positions}
 use Rattle.elias_fano_words.specs.Sizes.{lowLen, highLen}
@@ -28,6 +29,25 @@ zerosIn i = zerosAt (universe i) (declared i) (pushed i) (getD i 4 0)
 -- the length that the header gives
 abbrev pub endIn : List ℕ → ℕ
 endIn i = zerosIn i + cond (ranked i) (indexLen (highOf i - pushed i) (getD i 5 0)) 0
+
+-- a declared count, a number of times and a choice in their limits
+pub record Counts (n m c : ℕ) : Type 0 where
+  pub some : 0 < n
+  pub most : n ≤ 16777216
+  pub few : m ≤ n
+  pub choice : c ≤ 1
+
+-- the numbers of a header in their limits: no overflow list is longer than the image
+pub record Limits (i : List ℕ) : Type 0 where
+  pub six : 6 ≤ length i
+  pub counts : Counts (declared i) (pushed i) (getD i 3 0)
+  pub ones : getD i 4 0 ≤ length i
+  pub zeros : getD i 5 0 ≤ length i
+
+-- the image has the length that its header gives
+pub record Whole (i : List ℕ) : Type 0 where
+  pub none : ranked i ≡ false → getD i 5 0 ≡ 0
+  pub long : length i ≡ endIn i
 
 -- a header in its limits, and the length that it gives
 pub record Headed (i : List ℕ) : Type 0 where
@@ -61,3 +81,10 @@ pub record Open (i : List ℕ) (p : Parts) (table : List ℕ) : Type 0 where
   pub ok : accepted i ≡ true
   pub parts : p ≡ partsOf i
   pub rule : SelectInByte table
+
+-- the one of the time with the number k stands at the place x of the high bits
+pub record Placed (i : List ℕ) (p : Parts) (k x : ℕ) : Type 0 where
+  pub ok : accepted i ≡ true
+  pub parts : p ≡ partsOf i
+  pub below : k < p .«num_pushed»
+  pub place : select (bitOver true (take (p .«low_at» - 6) (drop 6 i))) (p .«high_len») k ≡ At x

@@ -2,13 +2,14 @@
 ghost use mathlib.Core.Bool.{true, false, cond};
 ghost use mathlib.Core.Path.{_≡_};
 ghost use Prim.Native.Nat.{_+_, _-_, _^_, _≤_, _<_};
+ghost use lib.ListN.{getD};
 ghost use Rattle.bit_words.specs.Vector.{invalid};
 ghost use Rattle.darray.specs.Index.{indexWords};
 ghost use Rattle.darray.specs.Pending.{Decides};
 ghost use Rattle.darray.specs.Positions.{positions};
 ghost use Rattle.elias_fano_words.specs.Times.{holds};
-ghost use Rattle.elias_fano.specs.Accept.{universe as universeOf, declared, pushed, indexLen, partsBy, partsOf, openOf, ofValue, timeOf, selectOf};
-ghost use Rattle.elias_fano.specs.Opening.{Headed, Heads, bitsIn, Indexes, Open};
+ghost use Rattle.elias_fano.specs.Accept.{universe as universeOf, declared, pushed, indexLen, partsBy, partsOf, times, openOf, ofValue, timeOf, selectOf};
+ghost use Rattle.elias_fano.specs.Opening.{Counts, Limits, Whole, Headed, Heads, bitsIn, Indexes, Open, Placed};
 use bit_words::words_for;
 use broadword::Found;
 use broadword::select_in_byte_table;
@@ -49,8 +50,8 @@ pub enum Value {
     Refused(Refusal),
 }
 
-// The parts that a header gives.
-pub enum Header {
+// The parts that a header gives, inside the crate.
+enum Header {
     Parts(Parts),
     Wrong,
 }
@@ -96,49 +97,80 @@ fn zeros_len(p: Parts, overflow: usize) -> usize
     0
 }
 
-// The header, if its numbers are in their limits and give the image's length. No sum wraps, however large the numbers are.
-fn read_header(image: &[u64]) -> Header
-    ensures { λ r. ⌜ Heads (now (image .entry)) r ⌝ }
+// Whether the counts of a header and its choice of a rank index are in their limits.
+fn are_counts(num_vals: u64, num_pushed: u64, choice: u64) -> bool
+    ensures { λ r. ⌜ Decides r (Counts «num_vals» «num_pushed» choice) ⌝ }
+{
+    if num_vals == 0 {
+        return false;
+    }
+    if num_vals > MAX_VALS {
+        return false;
+    }
+    if num_pushed > num_vals {
+        return false;
+    }
+    choice <= 1
+}
+
+// Whether the numbers of a header are in their limits: no overflow list is longer than the image.
+fn in_limits(image: &[u64]) -> bool
+    ensures { λ r. ⌜ Decides r (Limits (now (image .entry))) ⌝ }
 {
     let len = image.len();
     if len < 6 {
-        return Header::Wrong;
+        return false;
     }
-    if image[1] == 0 {
-        return Header::Wrong;
-    }
-    if image[1] > MAX_VALS {
-        return Header::Wrong;
-    }
-    if image[2] > image[1] {
-        return Header::Wrong;
-    }
-    if image[3] > 1 {
-        return Header::Wrong;
+    if !are_counts(image[1], image[2], image[3]) {
+        return false;
     }
     if image[4] > len as u64 {
-        return Header::Wrong;
+        return false;
     }
-    if image[5] > len as u64 {
-        return Header::Wrong;
-    }
-    let p = parts_of(
+    image[5] <= len as u64
+}
+
+// The parts of a header in its limits.
+fn parts_in(image: &[u64]) -> Parts
+    requires { ⌜ Limits (now image) ⌝ }
+    ensures { λ r. ⌜ r ≡ partsOf (now (image .entry)) ⌝ }
+{
+    parts_of(
         image[0],
         image[1],
         image[2],
         image[3] == 1,
         image[4] as usize,
-    );
-    if p.zeros_at + zeros_len(p, image[5] as usize) != len {
-        return Header::Wrong;
+    )
+}
+
+// Whether the parts give the image's length. No sum wraps, however large the numbers are.
+fn is_whole(image: &[u64], p: Parts) -> bool
+    requires { ⌜ (Limits (now image) × (p ≡ partsOf (now image))) ⌝ }
+    ensures { λ r. ⌜ Decides r (Whole (now (image .entry))) ⌝ }
+{
+    let zeros = image[5] as usize;
+    if p.zeros_at + zeros_len(p, zeros) != image.len() {
+        return false;
     }
     if p.rank {
-        return Header::Parts(p);
+        return true;
     }
-    if image[5] == 0 {
-        return Header::Parts(p);
+    zeros == 0
+}
+
+// The header, if its numbers are in their limits and give the image's length.
+fn read_header(image: &[u64]) -> Header
+    ensures { λ r. ⌜ Heads (now (image .entry)) r ⌝ }
+{
+    if !in_limits(image) {
+        return Header::Wrong;
     }
-    Header::Wrong
+    let p = parts_in(image);
+    if !is_whole(image, p) {
+        return Header::Wrong;
+    }
+    Header::Parts(p)
 }
 
 // Whether the high and the low words hold nothing but the values, in order.
@@ -205,6 +237,16 @@ pub fn open(image: &[u64]) -> Opened
     Opened::Image(p)
 }
 
+// The value with the number k, whose one stands at `place`.
+fn value_at(image: &[u64], p: Parts, k: usize, place: usize) -> u64
+    requires { ⌜ Placed (now image) p k place ⌝ }
+    ensures { λ r. ⌜ r ≡ getD (times (now (image .entry))) k 0 ⌝ }
+{
+    let start = p.low_at;
+    let end = p.ones_at;
+    (((place - k) as u64) << p.low_len) + low_at(&image[start..end], p.low_len, k)
+}
+
 // The value with the number k, by the indexes: constant time but for the words between every 32nd one.
 pub fn select_opened(image: &[u64], p: Parts, k: usize, table: &[u8; 2048]) -> Value
     requires { ⌜ Open (now image) p (now table) ⌝ }
@@ -225,9 +267,7 @@ pub fn select_opened(image: &[u64], p: Parts, k: usize, table: &[u8; 2048]) -> V
         table,
         k,
     ) {
-        Found::At(place) => Value::Is(
-            (((place - k) as u64) << p.low_len) + low_at(&image[start..ones_at], p.low_len, k),
-        ),
+        Found::At(place) => Value::Is(value_at(image, p, k, place)),
         Found::Nothing => Value::Nothing,
     }
 }
