@@ -3,22 +3,14 @@ use mathlib.Core.Path.{_≡_, sym, ap, _∙_, subst, subst⁻¹}
 use Prim.Native.Nat.{ℕ, zero, suc, _+_, _-_, _*_, _/_, _%_, _^_, _≤_, _<_}
 use native.Mathlib.Nat.{div-eq-of-lt, div-lt-iff-lt-mul, le-div-iff-mul-le, lt-of-lt-of-le, le-of-lt, mul-le-mul, mul-comm, le-refl, lt-of-not-le}
 use native.Mathlib.Omega.{arith}
-use lib.Count.{leadingZeros, leading-top}
 use lib.Pow.{pow-pos, pow-add, pow-mono}
 use Rattle.broadword.specs.Bits.{bit}
 use Rattle.broadword.specs.Places.{orElse}
 use Rattle.broadword.specs.declared.Found.{Found}
 use Rattle.broadword.proofs.Count.{bit-above}
 use Rattle.broadword.proofs.Find.{last-at, last-none}
-use Rattle.elias_fano_words.specs.Checks.{Highest}
 use Rattle.elias_fano_words.specs.Sizes.{lowLen}
-
-pub highest-is : (x : ℕ) → 0 < x → x < 2 ^ 64 → Highest x (63 - leadingZeros 64 x)
-highest-is x h l =
-    let t = leading-top 64 x h l in
-    let j : ℕ = t .0 in
-    let e : 63 - leadingZeros 64 x ≡ j = let d = t .1 in omega arith in
-    subst⁻¹ (Highest x) e (record { low = t .2; high = subst (λ (k : ℕ). x < 2 ^ k) (let d : suc j ≡ j + 1 = omega arith in d) (t .3); small = let d = t .1 in omega arith })
+use Rattle.elias_fano_words.proofs.Highest.{Highest}
 
 -- l by its bounds
 low-by : (u n l : ℕ) → l < 64 → 2 ^ l ≤ u / n → u / n < 2 ^ (l + 1) → l ≡ lowLen u n

@@ -1,38 +1,19 @@
 -- Bounds on a record's sizes: l is below 64, u / 2 ^ l below 2 n, and so the high length at most 3 n + 1. Assumes nothing.
 use mathlib.Core.Path.{_≡_, refl, ap, _∙_, subst, subst⁻¹}
 use Prim.Native.Nat.{ℕ, _+_, _*_, _/_, _^_, _≤_, _<_}
-use native.Mathlib.Nat.{mul-le-mul, lt-of-le-of-lt, lt-of-lt-of-le, div-le-self, div-lt-iff-lt-mul, one-mul, lt-of-not-le}
-use native.Mathlib.Decide.{decLt}
+use native.Mathlib.Nat.{mul-le-mul, lt-of-le-of-lt, div-le-self, div-lt-iff-lt-mul}
 use native.Mathlib.Omega.{arith}
 use lib.Dec.{lit<}
 use mir.Syntax.{w64}
 use mir.Val.{Fits}
-use lib.Pow.{pow-pos, pow-add, pow-mono}
+use lib.Pow.{pow-pos, pow-add}
 use Rattle.broadword.specs.Bits.{bit}
 use Rattle.broadword.specs.Places.{last, orElse}
 use Rattle.broadword.specs.declared.Found.{Found}
 use Rattle.broadword.specs.declared.Found.the-variants.{At, Nothing}
-use Rattle.broadword.proofs.Count.{bit-le, bit-above, bit-shift}
-use Rattle.broadword.proofs.Find.{last-is, last-nothing}
 use Rattle.bit_words.specs.Vector.{wordsFor}
-use Rattle.bit_words.proofs.Last.{not-one, no-bits}
 use Rattle.elias_fano_words.specs.Sizes.{lowLen, highLen}
-
--- a number is below the power after its highest one
-below-next : (q i : ℕ) → q < 2 ^ 64 → last (bit q) 64 ≡ At i → q < 2 ^ (i + 1)
-below-next q i h e =
-    let r = last-is (bit q) 64 i e in
-    let w : ℕ = q / 2 ^ (i + 1) in
-    let z : w ≡ 0 = no-bits w (lt-of-le-of-lt (div-le-self q (2 ^ (i + 1))) h) (λ j l. bit-shift q (i + 1) j ∙ high j (decLt (i + 1 + j) 64)) in
-    subst (λ (y : ℕ). q < y) (one-mul (2 ^ (i + 1))) (div-lt-iff-lt-mul (pow-pos (i + 1)) .0 (subst⁻¹ (λ (y : ℕ). y < 1) z (lit< tt)))
-  where
-    high : (j : ℕ) → Dec (i + 1 + j < 64) → bit q (i + 1 + j) ≡ 0
-    high j (yes l) = not-one (bit q (i + 1 + j)) (bit-le q (i + 1 + j)) (last-is (bit q) 64 i e .after (i + 1 + j) (omega arith) l)
-    high j (no g) = bit-above q (i + 1 + j) (lt-of-lt-of-le h (pow-mono {i = 64} (omega (arith, lt-of-not-le g))))
-
--- one that has none is 0
-none-zero : (q : ℕ) → q < 2 ^ 64 → last (bit q) 64 ≡ Nothing → q ≡ 0
-none-zero q h e = no-bits q h (λ j l. not-one (bit q j) (bit-le q j) (last-nothing (bit q) 64 e j l))
+use Rattle.elias_fano_words.proofs.Highest.{highest, none-zero}
 
 module _ (u n : ℕ) (hu : u < 2 ^ 64) (hn : 0 < n) where
   quotient-lt : u / n < 2 ^ 64
@@ -40,7 +21,7 @@ module _ (u n : ℕ) (hu : u < 2 ^ 64) (hn : 0 < n) where
 
   -- l is below 64, and the quotient below 2 ^ (l + 1)
   low-by : (a : Found) → last (bit (u / n)) 64 ≡ a → (orElse a 0 < 64) × (u / n < 2 ^ (orElse a 0 + 1))
-  low-by (At i) e = (last-is (bit (u / n)) 64 i e .within, below-next (u / n) i quotient-lt e)
+  low-by (At i) e = let h = highest (u / n) i quotient-lt e in (h .small, h .high)
   low-by Nothing e = let z = none-zero (u / n) quotient-lt e in (lit< tt, omega arith)
 
   low-facts : (lowLen u n < 64) × (u / n < 2 ^ (lowLen u n + 1))

@@ -4,6 +4,7 @@ pub mod Bounds
 pub mod Decided
 pub mod Decode
 pub mod Encode
+pub mod Highest
 pub mod Holds
 pub mod LastTime
 pub mod Marks

@@ -8,12 +8,6 @@ use Rattle.broadword.specs.Fields.{word}
 use Rattle.bit_words.specs.Vector.{bitAt, wordsFor}
 use Rattle.elias_fano_words.specs.Sizes.{lowLen, highLen}
 
--- the highest one of x stands at the place i
-pub record Highest (x i : ℕ) : Type 0 where
-  pub low : 2 ^ i ≤ x
-  pub high : x < 2 ^ (i + 1)
-  pub small : i < 64
-
 -- the l low bits with the number k
 abbrev pub lowBits : ℕ → List ℕ → ℕ → ℕ
 lowBits l low k = word 1 (λ i. bitAt low (k * l + i)) l

@@ -1,9 +1,12 @@
 // The sizes of a record, from its universe and its declared count. These are inner: they demand a count from 1 to 16,777,216.
 ghost use mathlib.Core.Path.{_≡_};
 ghost use Prim.Native.Nat.{_<_, _≤_};
-ghost use Rattle.elias_fano_words.specs.Checks.{Highest};
+ghost use Rattle.broadword.specs.Bits.{bit};
+ghost use Rattle.broadword.specs.Places.{last};
 ghost use Rattle.elias_fano_words.specs.Sizes.{lowLen, sizesOf};
 use bit_words::words_for;
+use broadword::Found;
+use broadword::msb;
 
 // The most values that a record may declare.
 pub const MAX_VALS: u64 = 16_777_216;
@@ -15,16 +18,20 @@ pub struct Sizes {
     pub start_len: usize,
 }
 
-// The place of the highest one of a number that is not 0, by the machine's own count.
-fn highest(x: u64) -> usize
-    requires { ⌜ 0 < x ⌝ }
-    ensures { λ r. ⌜ Highest x r ⌝ }
+// The place of the highest one of universe / num_vals, from those of the two: they are as far apart, or one further.
+fn place_of_quotient(universe: u64, num_vals: u64, i: usize, j: usize) -> usize
+    requires { ⌜ ((0 < «num_vals») × («num_vals» ≤ universe) × (last (bit universe) 64 ≡ Found.At i) × (last (bit «num_vals») 64 ≡ Found.At j)) ⌝ }
+    ensures { λ r. ⌜ r ≡ lowLen universe «num_vals» ⌝ }
 {
-    63 - u64::leading_zeros(x) as usize
+    let apart = i - j;
+    if universe >> apart < num_vals {
+        return apart - 1;
+    }
+    apart
 }
 
 // How many low bits of a value stand apart from its high bits: the place of the highest one of universe / num_vals. It is found without a
-// division, since every push asks for it: the places of the highest ones of the two are as far apart, or one further.
+// division, since every push asks for it.
 pub fn low_len(universe: u64, num_vals: u64) -> usize
     requires { ⌜ 0 < «num_vals» ⌝ }
     ensures { λ r. ⌜ r ≡ lowLen universe «num_vals» ⌝ }
@@ -32,11 +39,13 @@ pub fn low_len(universe: u64, num_vals: u64) -> usize
     if universe < num_vals {
         return 0;
     }
-    let apart = highest(universe) - highest(num_vals);
-    if universe >> apart < num_vals {
-        return apart - 1;
-    }
-    apart
+    let Found::At(i) = msb(universe) else {
+        return 0;
+    };
+    let Found::At(j) = msb(num_vals) else {
+        return 0;
+    };
+    place_of_quotient(universe, num_vals, i, j)
 }
 
 // How many high bits there are, and how many words a new record zeroes: the header, the high words, and the low words of as many values
