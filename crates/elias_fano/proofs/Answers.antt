@@ -7,13 +7,12 @@ use native.Mathlib.Omega.{arith}
 use Rattle.errors.specs.Answer.{Answer, refused}
 use Rattle.errors.specs.Refusal.{numberOf}
 use Rattle.errors.specs.declared.Refusal.{Refusal}
-use Rattle.errors.specs.declared.Refusal.the-variants.{Invalid}
 use Rattle.elias_fano.specs.declared.image.Header.{Header}
 use Rattle.elias_fano.specs.declared.image.Header.the-variants as head
 use Rattle.elias_fano.specs.declared.image.Opened.{Opened}
 use Rattle.elias_fano.specs.declared.image.Opened.the-variants as opened
 use Rattle.elias_fano.specs.declared.image.Parts.{Parts}
-use Rattle.elias_fano.specs.Accept.{accepted, partsOf, openOf, timeOf, selectOf}
+use Rattle.elias_fano.specs.Accept.{accepted, partsOf, Opening, parts, unopened, ofOpened, openOf, timeOf, selectOf}
 use Rattle.elias_fano.specs.Opening.{Headed, Heads}
 
 module _ (i : List ℕ) where
@@ -31,31 +30,32 @@ module _ (i : List ℕ) where
   not-accepted true h = absurd (h refl)
   not-accepted false h = refl
 
-  pub open-refused : (accepted i ≡ true → ⊥) → opened.Refused Invalid ≡ openOf i
+  pub open-refused : (accepted i ≡ true → ⊥) → unopened 7 ≡ openOf i
   unfolding openOf
-  open-refused h = sym (ap (λ (b : Bool). cond b (opened.Image (partsOf i)) (opened.Refused Invalid)) (not-accepted (accepted i) h))
+  open-refused h = sym (ap (λ (b : Bool). cond b (parts (partsOf i)) (unopened 7)) (not-accepted (accepted i) h))
 
-  pub open-image : (p : Parts) → p ≡ partsOf i → accepted i ≡ true → opened.Image p ≡ openOf i
+  pub open-image : (p : Parts) → p ≡ partsOf i → accepted i ≡ true → parts p ≡ openOf i
   unfolding openOf
-  open-image p e h = ap opened.Image e ∙ sym (ap (λ (b : Bool). cond b (opened.Image (partsOf i)) (opened.Refused Invalid)) h)
+  open-image p e h = ap parts e ∙ sym (ap (λ (b : Bool). cond b (parts (partsOf i)) (unopened 7)) h)
 
   -- ---- select
 
-  image-by : (b : Bool) (p q : Parts) → opened.Image p ≡ cond b (opened.Image q) (opened.Refused Invalid) → (b ≡ true) × (p ≡ q)
+  image-by : (b : Bool) (p q : Parts) → parts p ≡ cond b (parts q) (unopened 7) → (b ≡ true) × (p ≡ q)
   image-by true p q e = (refl, cc)
   image-by false p q e = let z : _≡_ {A = ℕ} 0 1 = cc in absurd (omega arith)
 
-  pub is-open : (r : Opened) (p : Parts) → r ≡ openOf i → r ≡ opened.Image p → (accepted i ≡ true) × (p ≡ partsOf i)
-  unfolding openOf
-  is-open r p er e = image-by (accepted i) p (partsOf i) (sym e ∙ er)
-
-  refused-by : (b : Bool) (k : Refusal) (q : Parts) (a : Answer) → opened.Refused k ≡ cond b (opened.Image q) (opened.Refused Invalid) → refused (numberOf k) ≡ cond b a (refused 7)
+  refused-by : (b : Bool) (k : ℕ) (q : Parts) (a : Answer) → unopened k ≡ cond b (parts q) (unopened 7) → refused k ≡ cond b a (refused 7)
   refused-by true k q a e = let z : _≡_ {A = ℕ} 0 1 = cc in absurd (omega arith)
-  refused-by false k q a e = let d : k ≡ Invalid = cc in ap (λ (x : Refusal). refused (numberOf x)) d
+  refused-by false k q a e = let d : k ≡ 7 = cc in ap refused d
 
-  pub select-refused : (r : Opened) (k : Refusal) (j : ℕ) → r ≡ openOf i → r ≡ opened.Refused k → refused (numberOf k) ≡ selectOf i j
-  unfolding openOf selectOf
-  select-refused r k j er e = refused-by (accepted i) k (partsOf i) (timeOf i j) (sym e ∙ er)
+  module _ (r : Opened) (er : ofOpened r ≡ openOf i) where
+    pub is-open : (p : Parts) → r ≡ opened.Image p → (accepted i ≡ true) × (p ≡ partsOf i)
+    unfolding openOf
+    is-open p e = image-by (accepted i) p (partsOf i) (sym (ap ofOpened e) ∙ er)
+
+    pub select-refused : (x : Refusal) (k : ℕ) → r ≡ opened.Refused x → refused (numberOf x) ≡ selectOf i k
+    unfolding openOf selectOf
+    select-refused x k e = refused-by (accepted i) (numberOf x) (partsOf i) (timeOf i k) (sym (ap ofOpened e) ∙ er)
 
   pub select-time : (a : Answer) (j : ℕ) → accepted i ≡ true → a ≡ timeOf i j → a ≡ selectOf i j
   unfolding selectOf

@@ -7,7 +7,6 @@ use lib.Dec.{eqb, leb, ltb}
 use lib.ListN.{length, getD, drop}
 use Rattle.errors.specs.Answer.{Answer, value, none, refused}
 use Rattle.errors.specs.Refusal.{numberOf}
-use Rattle.errors.specs.declared.Refusal.the-variants.{Invalid}
 use Rattle.bit_words.specs.Vector.{wordsFor}
 use Rattle.darray.specs.Queries.{same}
 use Rattle.elias_fano_words.specs.Sizes.{lowLen, highLen}
@@ -76,15 +75,26 @@ partsBy u n m c over = record {
 abbrev pub partsOf : List ℕ → Parts
 partsOf i = partsBy (universe i) (declared i) (pushed i) (ranked i) (getD i 4 0)
 
--- ---- the queries; 7 comes first
+-- ---- the cases of each answer, in document 01's terms
 
-unfoldable pub openOf : List ℕ → Opened
-openOf i = cond (accepted i) (opened.Image (partsOf i)) (opened.Refused Invalid)
+-- what an opening finds: the parts of an accepted image, or a refusal by its number
+pub data Opening : Type 0 where
+  parts : Parts → Opening
+  unopened : ℕ → Opening
+
+abbrev pub ofOpened : Opened → Opening
+ofOpened (opened.Image p) = parts p
+ofOpened (opened.Refused e) = unopened (numberOf e)
 
 abbrev pub ofValue : Value → Answer
 ofValue (val.Is t) = value t
 ofValue val.Nothing = none
 ofValue (val.Refused e) = refused (numberOf e)
+
+-- ---- the queries; 7 comes first
+
+unfoldable pub openOf : List ℕ → Opening
+openOf i = cond (accepted i) (parts (partsOf i)) (unopened 7)
 
 -- the time with the number k
 unfoldable pub timeOf : List ℕ → ℕ → Answer

@@ -8,7 +8,7 @@ ghost use Rattle.darray.specs.Index.{indexWords};
 ghost use Rattle.darray.specs.Pending.{Decides};
 ghost use Rattle.darray.specs.Positions.{positions};
 ghost use Rattle.elias_fano_words.specs.Times.{holds};
-ghost use Rattle.elias_fano.specs.Accept.{universe as universeOf, declared, pushed, indexLen, partsBy, partsOf, times, openOf, ofValue, timeOf, selectOf};
+ghost use Rattle.elias_fano.specs.Accept.{universe as universeOf, declared, pushed, indexLen, partsBy, partsOf, times, ofOpened, openOf, ofValue, timeOf, selectOf};
 ghost use Rattle.elias_fano.specs.Opening.{Counts, Limits, Whole, Headed, Heads, bitsIn, Indexes, Open, Placed};
 use bit_words::words_for;
 use broadword::Found;
@@ -223,7 +223,7 @@ fn has_indexes(image: &[u64], p: Parts) -> bool
 
 // Decides whether an image is one that some run writes (document 01: opening), in time linear in its words, and tells where its parts stand.
 pub fn open(image: &[u64]) -> Opened
-    ensures { λ r. ⌜ r ≡ openOf (now (image .entry)) ⌝ }
+    ensures { λ r. ⌜ ofOpened r ≡ openOf (now (image .entry)) ⌝ }
 {
     let Header::Parts(p) = read_header(image) else {
         return Opened::Refused(Refusal::Invalid);

@@ -3,7 +3,6 @@ use mathlib.Core.Path.{_≡_, refl, sym, ap, _∙_, subst}
 use mathlib.Core.List.{List}
 use mathlib.Core.Bool.{Bool, true, false, cond}
 use Prim.Native.Nat.{ℕ}
-use native.Mathlib.Omega.{arith}
 use lib.Dec.{eqb}
 use Rattle.errors.specs.Answer.{Answer, value, none, done, refused}
 use Rattle.errors.specs.Refusal.{numberOf}
@@ -19,9 +18,9 @@ use Rattle.elias_fano.specs.declared.image.Opened.the-variants as opened
 use Rattle.elias_fano.specs.declared.image.Parts.{Parts}
 use Rattle.elias_fano.specs.declared.image.Value.{Value}
 use Rattle.elias_fano.specs.declared.image.Value.the-variants as val
-use Rattle.elias_fano.specs.Accept.{accepted, partsOf, openOf, ofValue}
+use Rattle.elias_fano.specs.Accept.{Opening, ofOpened, ofValue}
 use Rattle.elias_fano.specs.Made.{Made, made, ofPushed, ofBuilt}
-use Rattle.ffi.specs.Answers.{ofRefusal, openedOf}
+use Rattle.ffi.specs.Answers.{ofRefusal, efOpened}
 
 -- no refusal has the number 0
 number-some : (e : Refusal) → eqb (numberOf e) 0 ≡ false
@@ -67,22 +66,12 @@ module _ (b c : Builder) (ec : c ≡ b) (r : Built) (w : List ℕ) (m : Builder 
 
 -- ---- opening
 
-module _ (i : List ℕ) (r : Opened) (er : r ≡ openOf i) where
-  image-by : (b : Bool) (p q : Parts) → opened.Image p ≡ cond b (opened.Image q) (opened.Refused Invalid) → _≡_ {A = ℕ} 0 (cond b 0 7)
-  image-by true p q e = refl
-  image-by false p q e = let z : _≡_ {A = ℕ} 0 1 = cc in absurd (omega arith)
+module _ (r : Opened) (a : Opening) (er : ofOpened r ≡ a) where
+  pub image-told : (p : Parts) → r ≡ opened.Image p → 0 ≡ efOpened a
+  image-told p e = ap efOpened (sym (ap ofOpened e) ∙ er)
 
-  refused-by : (b : Bool) (k : Refusal) (q : Parts) → opened.Refused k ≡ cond b (opened.Image q) (opened.Refused Invalid) → numberOf k ≡ cond b 0 7
-  refused-by true k q e = let z : _≡_ {A = ℕ} 0 1 = cc in absurd (omega arith)
-  refused-by false k q e = let d : k ≡ Invalid = cc in ap numberOf d
-
-  pub image-told : (p : Parts) → r ≡ opened.Image p → 0 ≡ openedOf i
-  unfolding openOf openedOf
-  image-told p e = image-by (accepted i) p (partsOf i) (sym e ∙ er)
-
-  pub refusal-told : (e : Refusal) (k : ℕ) → r ≡ opened.Refused e → k ≡ numberOf e → k ≡ openedOf i
-  unfolding openOf openedOf
-  refusal-told e k q h = h ∙ refused-by (accepted i) e (partsOf i) (sym q ∙ er)
+  pub refusal-told : (e : Refusal) (k : ℕ) → r ≡ opened.Refused e → k ≡ numberOf e → k ≡ efOpened a
+  refusal-told e k q h = h ∙ ap efOpened (sym (ap ofOpened q) ∙ er)
 
 -- ---- select
 

@@ -7,7 +7,7 @@ use lib.Dec.{eqb}
 use Rattle.errors.specs.Answer.{Answer, value, none, done, refused}
 use Rattle.elias_fano.specs.declared.builder.Builder.{Builder}
 use Rattle.elias_fano.specs.declared.builder.Pushed.{Pushed}
-use Rattle.elias_fano.specs.Accept.{accepted}
+use Rattle.elias_fano.specs.Accept.{Opening, parts, unopened}
 use Rattle.elias_fano.specs.Made.{made, builder, ofPushed}
 use Rattle.ffi.specs.declared.EfAnswer.{EfAnswer}
 use Rattle.ffi.specs.declared.EfBuilder.{EfBuilder}
@@ -27,9 +27,10 @@ efAnswer none = record { kind = 1; value = 0 }
 efAnswer (refused k) = record { kind = 2; value = k }
 efAnswer done = record { kind = 3; value = 0 }
 
--- what an opening says
-unfoldable pub openedOf : List ℕ → ℕ
-openedOf i = cond (accepted i) 0 7
+-- 0 for an accepted image, or the refusal's number
+abbrev pub efOpened : Opening → ℕ
+efOpened (parts p) = 0
+efOpened (unopened k) = k
 
 -- a start or a reading, told
 abbrev pub Told : EfBuilder → Pushed → EfPushed → Type 0

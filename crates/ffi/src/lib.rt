@@ -1,9 +1,9 @@
 // The record for C and Rust: a static library, thin over `elias_fano`. ffi/elias_fano.h says it in C, with who owns which words.
 ghost use mathlib.Core.Path.{_≡_};
-ghost use Rattle.elias_fano.specs.Accept.{selectOf};
+ghost use Rattle.elias_fano.specs.Accept.{openOf, selectOf};
 ghost use Rattle.elias_fano.specs.Made.{made};
 ghost use Rattle.elias_fano.specs.Steps.{newOf, pushOf, buildOf};
-ghost use Rattle.ffi.specs.Answers.{ofBuilder, ofRefusal, efAnswer, openedOf, Told};
+ghost use Rattle.ffi.specs.Answers.{ofBuilder, ofRefusal, efAnswer, efOpened, Told};
 use elias_fano::builder;
 use elias_fano::builder::Builder;
 use elias_fano::builder::Built;
@@ -124,7 +124,7 @@ pub extern "C" fn ef_build(b: EfBuilder, rank: bool, buffer: &mut [u64]) -> EfAn
 // Decides whether an image is one that some run writes: 0, or the refusal's number.
 #[no_mangle]
 pub extern "C" fn ef_open(words: &[u64]) -> u64
-    ensures { λ r. ⌜ r ≡ openedOf (now (words .entry)) ⌝ }
+    ensures { λ r. ⌜ r ≡ efOpened (openOf (now (words .entry))) ⌝ }
 {
     match image::open(words) {
         Opened::Image(_p) => 0,
