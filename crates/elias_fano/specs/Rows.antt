@@ -1,10 +1,11 @@
 -- Document 01's examples of the calls as rows of one table, and the theorem that covers the table. Assumes nothing.
-use mathlib.Core.Path.{_≡_, refl}
-use mathlib.Core.List.{List, [], _∷_, map}
-use mathlib.Core.Bool.{true, false}
-use Prim.Native.Nat.{ℕ, _-_, _^_}
-use lib.ListN.{replicate}
-use Rattle.errors.specs.Answer.{Answer, value, none, refused}
+use mathlib.Core.Path.{_≡_, ap}
+use mathlib.Core.List.{List, [], _∷_, _++_, map}
+use mathlib.Core.Bool.{Bool, true, false}
+use Prim.Native.Nat.{ℕ, _-_, _^_, zero-le}
+use borrow.Author.Tests.{le-ltb, le-leb}
+use lib.ListN.{drop, replicate}
+use Rattle.errors.specs.Answer.{Answer, value, none, done, refused, Outcome, leaves}
 use Rattle.broadword.specs.Bits.{bit, count}
 use Rattle.broadword.specs.Fields.{word}
 use Rattle.broadword.specs.Places.{last, select}
@@ -16,51 +17,81 @@ use Rattle.elias_fano_words.specs.Sizes.{lowLen, highLen, startLen}
 use Rattle.elias_fano_words.specs.Image.{highFrom, lowNumber, highWords, lowWords, image}
 use Rattle.elias_fano_words.specs.Times.{rising, bitWords, timeIn, timesIn, holds}
 use Rattle.elias_fano.specs.Accept.{fit, times, accepted, timeOf, selectOf}
-use Rattle.elias_fano.specs.Made.{Made, builder}
-use Rattle.elias_fano.specs.Steps.{newTest, newOf, sound, builderTest, timeTest, filed, pushOf, heldTimes, intact, imageOf, imageTest, buildOf}
+use Rattle.elias_fano.specs.Made.{Made, made, builder}
+use Rattle.elias_fano.specs.Steps.{tested, newTest, newOf, sound, builderTest, timeTest, filed, pushOf, heldTimes, intact, imageOf, imageTest, buildOf}
 
--- what is asked, and what document 01 says
+-- what is asked, and what document 01 says: an answer, and the words that are left
 pub record Row : Type 0 where
-  pub asked : Answer
-  pub says : Answer
+  pub asked : Outcome
+  pub says : Outcome
 
-abbrev row : Answer → Answer → Row
-row a s = record { asked = a; says = s }
+-- a query leaves no words
+abbrev ask : Answer → Answer → Row
+ask a s = record { asked = leaves a []; says = leaves s [] }
 
--- u 20, n 4, times 3 4 4 13, with the rank index
-unfoldable pub four : List ℕ
-four = 20 ∷ 4 ∷ 4 ∷ 1 ∷ 0 ∷ 0 ∷ 77 ∷ 67 ∷ 0 ∷ 0 ∷ 1 ∷ 0 ∷ []
+-- a call on a builder leaves every word lent
+abbrev call : Made → Answer → List ℕ → Row
+call m s w = record { asked = leaves (m .answer) (m .words); says = leaves s w }
 
--- a start and some readings on 16 words of 5: what the last call leaves
+-- 16 words of 5 are lent
+unfoldable pub start : ℕ → ℕ → Made
+start u n = newOf u n (replicate 16 5)
+
+-- some readings: what the last of them leaves
 unfoldable pub filedFrom : Made → List ℕ → Made
 filedFrom m [] = m
 filedFrom m (t ∷ T) = filedFrom (pushOf (m .builder) t (m .words)) T
 
-unfoldable pub written : ℕ → ℕ → List ℕ → Made
-written u n T = filedFrom (newOf u n (replicate 16 5)) T
+unfoldable pub reading : ℕ → ℕ → List ℕ → Made
+reading u n T = filedFrom (start u n) T
 
-unfoldable pub rows : List Row
-rows =
-    row (selectOf four 0) (value 3)
-    ∷ row (selectOf four 1) (value 4)
-    ∷ row (selectOf four 2) (value 4)
-    ∷ row (selectOf four 3) (value 13)
-    ∷ row (selectOf four 4) none
-    ∷ row (selectOf [] 0) (refused 7)
-    ∷ row (selectOf ((2 ^ 64 - 1) ∷ 1 ∷ 1 ∷ 0 ∷ 0 ∷ 0 ∷ 2 ∷ (2 ^ 63 - 2) ∷ 1 ∷ 0 ∷ []) 0) (value (2 ^ 64 - 2))
-    ∷ row (selectOf ((2 ^ 64 - 1) ∷ 1 ∷ 1 ∷ 0 ∷ 0 ∷ 0 ∷ 4 ∷ 5 ∷ 2 ∷ 0 ∷ []) 0) (refused 7)
-    ∷ row (newOf 20 0 (replicate 16 5) .answer) (refused 1)
-    ∷ row (newOf 20 16777217 (replicate 16 5) .answer) (refused 2)
-    ∷ row (newOf 20 4 (replicate 7 5) .answer) (refused 3)
-    ∷ row (written 20 4 (4 ∷ 3 ∷ []) .answer) (refused 4)
-    ∷ row (written 20 4 (20 ∷ []) .answer) (refused 5)
-    ∷ row (written 0 1 (0 ∷ []) .answer) (refused 5)
-    ∷ row (written 20 4 (3 ∷ 4 ∷ 4 ∷ 13 ∷ 13 ∷ []) .answer) (refused 6)
-    ∷ row (buildOf (written 20 4 (3 ∷ 4 ∷ 4 ∷ 13 ∷ []) .builder) true (written 20 4 (3 ∷ 4 ∷ 4 ∷ 13 ∷ []) .words) .answer) (value 12)
-    ∷ row (selectOf (buildOf (written 20 4 (3 ∷ 4 ∷ 4 ∷ 13 ∷ []) .builder) true (written 20 4 (3 ∷ 4 ∷ 4 ∷ 13 ∷ []) .words) .words) 3) (refused 7)
-    ∷ row (buildOf (written 0 1 [] .builder) false (written 0 1 [] .words) .answer) (value 7)
+-- a finish after them
+unfoldable pub finish : ℕ → ℕ → List ℕ → Bool → Made
+finish u n T c = buildOf (reading u n T .builder) c (reading u n T .words)
+
+-- the image of u 20, n 4, times 3 4 4 13, with the rank index
+unfoldable pub four : List ℕ
+four = 20 ∷ 4 ∷ 4 ∷ 1 ∷ 0 ∷ 0 ∷ 77 ∷ 67 ∷ 0 ∷ 0 ∷ 1 ∷ 0 ∷ []
+
+-- that of u 2^64 - 1, n 1, time 2^64 - 2, without it
+unfoldable pub widest : List ℕ
+widest = (2 ^ 64 - 1) ∷ 1 ∷ 1 ∷ 0 ∷ 0 ∷ 0 ∷ 2 ∷ (2 ^ 63 - 2) ∷ 1 ∷ 0 ∷ []
+
+-- t is any time
+unfoldable pub rows : ℕ → List Row
+rows t =
+    call (reading 0 1 (t ∷ [])) (refused 5) (replicate 7 0 ++ replicate 9 5)
+    ∷ call (finish 0 1 [] false) (value 7) (0 ∷ 1 ∷ 0 ∷ 0 ∷ 0 ∷ 0 ∷ 0 ∷ replicate 9 5)
+    ∷ call (start 20 4) done (replicate 8 0 ++ replicate 8 5)
+    ∷ call (reading 20 4 (3 ∷ 4 ∷ 4 ∷ 13 ∷ [])) done (replicate 6 0 ++ (77 ∷ 67 ∷ replicate 8 5))
+    ∷ call (finish 20 4 (3 ∷ 4 ∷ 4 ∷ 13 ∷ []) true) (value 12) (four ++ replicate 4 5)
+    ∷ ask (selectOf four 0) (value 3)
+    ∷ ask (selectOf four 1) (value 4)
+    ∷ ask (selectOf four 2) (value 4)
+    ∷ ask (selectOf four 3) (value 13)
+    ∷ ask (selectOf four 4) none
+    ∷ ask (selectOf (four ++ replicate 4 5) 3) (refused 7)
+    ∷ call (finish (2 ^ 64 - 1) 1 ((2 ^ 64 - 2) ∷ []) false) (value 10) (widest ++ replicate 6 5)
+    ∷ ask (selectOf widest 0) (value (2 ^ 64 - 2))
+    ∷ ask (selectOf ((2 ^ 64 - 1) ∷ 1 ∷ 1 ∷ 0 ∷ 0 ∷ 0 ∷ 4 ∷ 5 ∷ 2 ∷ 0 ∷ []) 0) (refused 7)
+    ∷ call (start 20 0) (refused 1) (replicate 16 5)
+    ∷ call (start 20 16777217) (refused 2) (replicate 16 5)
+    ∷ call (newOf 20 4 (replicate 7 5)) (refused 3) (replicate 7 5)
+    ∷ call (reading 20 4 (4 ∷ 3 ∷ [])) (refused 4) (replicate 6 0 ++ (2 ∷ 0 ∷ replicate 8 5))
+    ∷ call (reading 20 4 (20 ∷ [])) (refused 5) (replicate 8 0 ++ replicate 8 5)
+    ∷ call (reading 20 4 (3 ∷ 4 ∷ 4 ∷ 13 ∷ 13 ∷ [])) (refused 6) (replicate 6 0 ++ (77 ∷ 67 ∷ replicate 8 5))
+    ∷ ask (selectOf [] 0) (refused 7)
     ∷ []
 
-pub rows-right : map (λ (r : Row). r .asked) rows ≡ map (λ (r : Row). r .says) rows
-unfolding rows four written filedFrom bit count word last select bitAt bitOver number numberWords overwrite table pos blocks size wide spill before entry lanes lane laneWord laneWords overflow indexWords places same lowLen highLen startLen highFrom lowNumber highWords lowWords image rising bitWords timeIn timesIn holds fit times accepted timeOf selectOf newTest newOf sound builderTest timeTest filed pushOf heldTimes intact imageOf imageTest buildOf
-rows-right = refl
+-- no time is below the universe 0
+past : (t : ℕ) → timeTest (builder 0 1 0 0) t ≡ refused 5
+unfolding timeTest
+past t = simp (le-ltb t 0 (zero-le {n = t}), le-leb 0 t (zero-le {n = t}))
+
+-- by computation, but for the one row with a time that is not known
+pub rows-right : (t : ℕ) → map (λ (r : Row). r .asked) (rows t) ≡ map (λ (r : Row). r .says) (rows t)
+unfolding rows four widest start filedFrom reading finish bit count word last select bitAt bitOver number numberWords overwrite table pos blocks size wide spill before entry lanes lane laneWord laneWords overflow indexWords places same lowLen highLen startLen highFrom lowNumber highWords lowWords image rising bitWords timeIn timesIn holds fit times accepted timeOf selectOf newTest newOf sound builderTest timeTest filed pushOf heldTimes intact imageOf imageTest buildOf
+rows-right t =
+    let w : List ℕ = replicate 7 0 ++ replicate 9 5 in
+    let m : Answer → Made = λ a. tested a (builder 0 1 0 0) w (made done (builder 0 1 1 t) (filed 0 1 0 t w)) in
+    ap (λ (a : Answer). leaves (m a .answer) (m a .words) ∷ drop 1 (map (λ (r : Row). r .says) (rows t))) (past t)
