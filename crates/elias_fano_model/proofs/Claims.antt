@@ -14,8 +14,9 @@ use Rattle.elias_fano_words.specs.Sizes.{startLen}
 use Rattle.elias_fano_words.specs.Image.{image}
 use Rattle.elias_fano_words.specs.Times.{rising, lastOf}
 use Rattle.elias_fano_words.proofs.Rising.{rising-first, lastOf-snoc}
-use Rattle.elias_fano.specs.Accept.{universe, declared, ranked, times, accepted, timeOf, selectOf}
+use Rattle.elias_fano.specs.Accept.{universe, declared, ranked, times, accepted, partsOf, parts, unopened, openOf, timeOf, selectOf}
 use Rattle.elias_fano.specs.Made.{Made}
+use Rattle.elias_fano.specs.declared.image.Parts.{Parts}
 use Rattle.elias_fano.specs.Steps.{newOf}
 use Rattle.elias_fano.proofs.Images.{is-fit, is-image}
 use Rattle.elias_fano_model.specs.Model.{Call, push, build, answerTo, after, openWords, tooLong, openBook, closedBook, bookFrom, book}
@@ -40,9 +41,13 @@ unfolding timeOf
 asked-by i k true e = ((λ _. time-not (ltb k (length (times i))) (getD (times i) k 0)), (λ _. refl))
 asked-by i k false e = ((λ (h : false ≡ true). let z : _≡_ {A = ℕ} 0 1 = cc in absurd (omega arith)), (λ h. absurd (h refl)))
 
+opening-by : (p : Parts) (b : Bool) → (b ≡ true) ↔ (cond b (parts p) (unopened 7) ≡ unopened 7 → ⊥)
+opening-by p true = ((λ _ (e : parts p ≡ unopened 7). let z : _≡_ {A = ℕ} 0 1 = cc in omega arith), (λ _. refl))
+opening-by p false = ((λ (h : false ≡ true). let z : _≡_ {A = ℕ} 0 1 = cc in absurd (omega arith)), (λ h. absurd (h refl)))
+
 pub asked : Asked
-unfolding selectOf
-asked i k = asked-by i k (accepted i) refl
+unfolding openOf selectOf
+asked i = record { opening = opening-by (partsOf i) (accepted i); select = λ k. asked-by i k (accepted i) refl }
 
 -- ---- equal images
 
@@ -134,6 +139,9 @@ writes i h =
       c = c;
       T = T;
       lent = lent;
+      that-universe = refl;
+      that-count = refl;
+      that-choice = refl;
       begun = b;
       all-accepted = ap (map (λ (s : Made). s .answer)) (every u n lent b xs) ∙ ap (λ (l : List Answer). done ∷ l) (g .shows ∙ ap (λ (x : List ℕ). map (λ (t : ℕ). done) T ++ (value (length x) ∷ [])) (sym e));
       writes = ap₂ take (ap length e) (ap (λ (s : Made). s .words) (end-is u n lent b xs ∙ g .ends)) ∙ take-append-seam (image u n c T) (drop (length (image u n c T)) (openWords u n lent T)) ∙ sym e;

@@ -9,7 +9,7 @@ use lib.ListN.{length, getD, take}
 use Rattle.errors.specs.Answer.{Answer, value, none, done, refused}
 use Rattle.elias_fano_words.specs.Sizes.{startLen}
 use Rattle.elias_fano.specs.declared.builder.Builder.{Builder}
-use Rattle.elias_fano.specs.Accept.{universe, declared, ranked, accepted, selectOf}
+use Rattle.elias_fano.specs.Accept.{universe, declared, ranked, accepted, unopened, openOf, selectOf}
 use Rattle.elias_fano.specs.Made.{Made}
 use Rattle.elias_fano.specs.Steps.{newOf, pushOf, buildOf}
 use Rattle.elias_fano_model.specs.Model.{Call, push, build, book, timesFrom}
@@ -74,9 +74,13 @@ pub record Begun (u n : ℕ) (lent : List ℕ) : Type 0 where
   pub long : startLen u n ≤ length lent
   pub words : Words lent
 
--- "An image is accepted if the record's questions do not refuse it with 7"
+-- "An image is accepted if the record's questions do not refuse it with 7": opening does not, and select does not, for any number
+pub record NotRefused (i : List ℕ) : Type 0 where
+  pub opening : (accepted i ≡ true) ↔ (openOf i ≡ unopened 7 → ⊥)
+  pub select : (k : ℕ) → (accepted i ≡ true) ↔ (selectOf i k ≡ refused 7 → ⊥)
+
 abbrev pub Asked : Type 0
-Asked = (i : List ℕ) (k : ℕ) → (accepted i ≡ true) ↔ (selectOf i k ≡ refused 7 → ⊥)
+Asked = (i : List ℕ) → NotRefused i
 
 -- 1. "equal images exactly for equal settings and times"
 abbrev pub Same : Type 0
@@ -84,13 +88,16 @@ Same =
     (i j : List ℕ) → accepted i ≡ true → accepted j ≡ true
     → (i ≡ j) ↔ ((universe i ≡ universe j) × (declared i ≡ declared j) × (ranked i ≡ ranked j) × (shown i ≡ shown j))
 
--- some run of accepted pushes, perhaps of none, begun and finished with these settings, writes i
+-- some run of accepted pushes, perhaps of none, begun and finished with the settings of i, writes i
 pub record Written (i : List ℕ) : Type 0 where
   pub u : ℕ
   pub n : ℕ
   pub c : Bool
   pub T : List ℕ
   pub lent : List ℕ
+  pub that-universe : universe i ≡ u
+  pub that-count : declared i ≡ n
+  pub that-choice : ranked i ≡ c
   pub begun : Begun u n lent
   pub all-accepted : map (λ (s : Made). s .answer) (run u n lent (map push T ++ (build c ∷ []))) ≡ done ∷ (map (λ (t : ℕ). done) T ++ (value (length i) ∷ []))
   pub writes : take (length i) (endOf u n lent (map push T ++ (build c ∷ [])) .words) ≡ i
