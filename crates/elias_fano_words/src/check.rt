@@ -21,7 +21,7 @@ use broadword::Found;
 use broadword::msb;
 use broadword::popcount;
 
-// The last time, 0 where there is none, or that the words do not hold such times.
+// The last time, 0 where there is none, or that the words do not hold such times. It is inner: no call of the record answers so.
 pub enum Checked {
     Last(u64),
     Wrong,

@@ -17,25 +17,29 @@ add-high : tie.Need-add-high
 add-high c = search needs
 
 shr-high : tie.Need-shr-high
-shr-high c = let l = bounds.low-lt (c .before .args .universe) (c .before .args .num-vals) (c .before .fits .universe .fits) (c .before .pre .0) in let e = c .low-len .ensures in omega arith
+shr-high c = let s = c .before in let l = bounds.low-lt (s .args .universe) (s .args .num-vals) (s .fits .universe .fits) (s .pre .0) in let e = c .low-len .ensures in omega arith
 
 add-high-2 : tie.Need-add-high-2
-add-high-2 c = bounds.high-fits (c .before .args .universe) (c .before .args .num-vals) (c .before .fits .universe .fits) (c .before .pre .0) (c .before .pre .1) (c .low-len .result) (c .low-len .ensures)
+add-high-2 c = let s = c .before in bounds.high-fits (s .args .universe) (s .args .num-vals) (s .fits .universe .fits) (s .pre .0) (s .pre .1) _ (c .low-len .ensures) _ (omega arith)
 
 words-for-requires : tie.Need-words-for-requires
 words-for-requires c κs = search needs
 
 add-t9 : tie.Need-add-t9
-add-t9 c = bounds.sum-fits (c .before .before .args .universe) (c .before .before .args .num-vals) (c .before .before .fits .universe .fits) (c .before .before .pre .0) (c .before .before .pre .1) (c .before .low-len .result) (c .before .low-len .ensures) _ (c .words-for .ensures)
+add-t9 c = let s = c .before .before in let h = bounds.few-high-words (s .args .universe) (s .args .num-vals) (s .fits .universe .fits) (s .pre .0) (s .pre .1) _ (c .before .low-len .ensures) _ (omega arith) _ (c .words-for .ensures) in record { fits = omega arith }
 
 mul-words-for : tie.Need-mul-words-for
-mul-words-for c = bounds.low-fits (c .before .before .args .universe) (c .before .before .args .num-vals) (c .before .before .fits .universe .fits) (c .before .before .pre .0) (c .before .before .pre .1) (c .before .low-len .result) (c .before .low-len .ensures)
+mul-words-for c = let s = c .before .before in bounds.low-fits (s .args .universe) (s .args .num-vals) (s .fits .universe .fits) (s .pre .0) (s .pre .1) _ (c .before .low-len .ensures)
 
 words-for-requires-2 : tie.Need-words-for-requires-2
 words-for-requires-2 c κs = search needs
 
 add-t12 : tie.Need-add-t12
-add-t12 c = bounds.sums-fit (c .before .before .before .args .universe) (c .before .before .before .args .num-vals) (c .before .before .before .fits .universe .fits) (c .before .before .before .pre .0) (c .before .before .before .pre .1) (c .before .before .low-len .result) (c .before .before .low-len .ensures) _ _ (c .before .words-for .ensures) (c .words-for2 .ensures)
+add-t12 c =
+    let s = c .before .before .before in
+    let h = bounds.few-high-words (s .args .universe) (s .args .num-vals) (s .fits .universe .fits) (s .pre .0) (s .pre .1) _ (c .before .before .low-len .ensures) _ (omega arith) _ (c .before .words-for .ensures) in
+    let l = bounds.few-low-words (s .args .universe) (s .args .num-vals) (s .fits .universe .fits) (s .pre .0) (s .pre .1) _ (c .before .before .low-len .ensures) _ (c .words-for2 .ensures) in
+    record { fits = omega arith }
 
 returns : tie.Need-returns
 unfolding highLen startLen
