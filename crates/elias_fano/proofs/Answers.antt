@@ -12,7 +12,7 @@ use Rattle.elias_fano.specs.declared.image.Header.the-variants as head
 use Rattle.elias_fano.specs.declared.image.Opened.{Opened}
 use Rattle.elias_fano.specs.declared.image.Opened.the-variants as opened
 use Rattle.elias_fano.specs.declared.image.Parts.{Parts}
-use Rattle.elias_fano.specs.Accept.{accepted, partsOf, Opening, parts, unopened, ofOpened, openOf, timeOf, selectOf}
+use Rattle.elias_fano.specs.Accept.{accepted, partsOf, parts, unopened, ofOpened, openOf, timeOf, selectOf}
 use Rattle.elias_fano.specs.Opening.{Headed, Heads}
 
 module _ (i : List ℕ) where
@@ -48,14 +48,13 @@ module _ (i : List ℕ) where
   refused-by true k q a e = let z : _≡_ {A = ℕ} 0 1 = cc in absurd (omega arith)
   refused-by false k q a e = let d : k ≡ 7 = cc in ap refused d
 
-  module _ (r : Opened) (er : ofOpened r ≡ openOf i) where
-    pub is-open : (p : Parts) → r ≡ opened.Image p → (accepted i ≡ true) × (p ≡ partsOf i)
-    unfolding openOf
-    is-open p e = image-by (accepted i) p (partsOf i) (sym (ap ofOpened e) ∙ er)
+  pub is-open : (r : Opened) (p : Parts) → ofOpened r ≡ openOf i → r ≡ opened.Image p → (accepted i ≡ true) × (p ≡ partsOf i)
+  unfolding openOf
+  is-open r p er e = image-by (accepted i) p (partsOf i) (sym (ap ofOpened e) ∙ er)
 
-    pub select-refused : (x : Refusal) (k : ℕ) → r ≡ opened.Refused x → refused (numberOf x) ≡ selectOf i k
-    unfolding openOf selectOf
-    select-refused x k e = refused-by (accepted i) (numberOf x) (partsOf i) (timeOf i k) (sym (ap ofOpened e) ∙ er)
+  pub select-refused : (r : Opened) (x : Refusal) (k : ℕ) → ofOpened r ≡ openOf i → r ≡ opened.Refused x → refused (numberOf x) ≡ selectOf i k
+  unfolding openOf selectOf
+  select-refused r x k er e = refused-by (accepted i) (numberOf x) (partsOf i) (timeOf i k) (sym (ap ofOpened e) ∙ er)
 
   pub select-time : (a : Answer) (j : ℕ) → accepted i ≡ true → a ≡ timeOf i j → a ≡ selectOf i j
   unfolding selectOf

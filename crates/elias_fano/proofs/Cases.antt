@@ -1,6 +1,6 @@
 -- The tests of each call, one law to a case, and what a call leaves where they refuse and where they are done: the code's proofs cite them at
 -- each `return`, and the model's proof cites them again. Assumes nothing.
-use mathlib.Core.Path.{_≡_, ap, _∙_}
+use mathlib.Core.Path.{_≡_, ap}
 use mathlib.Core.List.{List, _++_}
 use mathlib.Core.Bool.{Bool, true, false, _&&_, cond}
 use Prim.Native.Nat.{ℕ, _+_, _≤_, _<_}
@@ -10,7 +10,7 @@ use lib.Dec.{eqb, leb, ltb}
 use lib.ListN.{length, drop, replicate}
 use Rattle.errors.specs.Answer.{Answer, value, done, refused}
 use Rattle.elias_fano_words.specs.Sizes.{startLen}
-use Rattle.elias_fano_words.proofs.Rising.{and-true}
+use Rattle.elias_fano_words.proofs.Truth.{and-true}
 use Rattle.elias_fano.specs.declared.builder.Builder.{Builder}
 use Rattle.elias_fano.specs.Made.{Made, made, builder, nobody}
 use Rattle.elias_fano.specs.Steps.{tested, newTest, newOf, sound, builderTest, timeTest, filed, pushTest, pushOf, intact, imageOf, imageTest, buildTest, finishedWords, buildOf}

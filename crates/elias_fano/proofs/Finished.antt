@@ -24,7 +24,7 @@ use Rattle.elias_fano_words.specs.Times.{rising, bitWords, timesIn, holds}
 use Rattle.elias_fano_words.proofs.Decode.{length-high}
 use Rattle.elias_fano_words.proofs.Holds.{fit-held, length-held}
 use Rattle.elias_fano_words.proofs.Valid.{valid-high}
-use Rattle.elias_fano_words.proofs.Rising.{and-true}
+use Rattle.elias_fano_words.proofs.Truth.{and-true}
 use Rattle.elias_fano.specs.Finishing.{Measurable, zerosOf, onesWords, zerosWords, Planned, Holding, Finishable}
 use Rattle.elias_fano.specs.Steps.{heldWords, heldTimes, intact, imageOf, finishedWords}
 use Rattle.elias_fano.specs.declared.builder.Builder.{Builder}
@@ -241,8 +241,8 @@ module _ (b : Builder) (w : List ℕ) (f : Holding b w) where
           high-1 : take (wordsFor h) (drop 6 w₁) ≡ hs
           high-1 = ap₂ (λ (k : ℕ) (x : List ℕ). take (wordsFor k) (drop 6 x)) eh e₁
 
-          pub ones-writable : (6 + wordsFor h ≤ p .«ones_at») × (p .«ones_at» ≤ length w₁) × Writable (positions true (take (wordsFor h) (drop 6 w₁)) h) h (length (take (wordsFor h) (drop 6 w₁))) (p .ones) (length w₁ - p .«ones_at»)
-          ones-writable =
+          pub first-writable : (6 + wordsFor h ≤ p .«ones_at») × (p .«ones_at» ≤ length w₁) × Writable (positions true (take (wordsFor h) (drop 6 w₁)) h) h (length (take (wordsFor h) (drop 6 w₁))) (p .ones) (length w₁ - p .«ones_at»)
+          first-writable =
               let a = q .ones-at in
               let z = q .end in
               let e = length-1 in
@@ -290,8 +290,8 @@ module _ (b : Builder) (w : List ℕ) (f : Holding b w) where
                 (ap (take at) words-2 ∙ take-at front (ones ++ rest) at length-front ∙ sym front-1 ∙ ap (λ (k : ℕ). take k w₁) (q .ones-at))
                 ∙ high-1
 
-            pub zeros-writable : (6 + wordsFor h ≤ p .«zeros_at») × (p .«zeros_at» ≤ length w₂) × Writable (zerosOf c (take (wordsFor h) (drop 6 w₂)) h) h (length (take (wordsFor h) (drop 6 w₂))) (p .zeros) (length w₂ - p .«zeros_at»)
-            zeros-writable =
+            pub second-writable : (6 + wordsFor h ≤ p .«zeros_at») × (p .«zeros_at» ≤ length w₂) × Writable (zerosOf c (take (wordsFor h) (drop 6 w₂)) h) h (length (take (wordsFor h) (drop 6 w₂))) (p .zeros) (length w₂ - p .«zeros_at»)
+            second-writable =
                 let a = q .zeros-at in
                 let z = q .end in
                 let e = length-2 in
@@ -330,8 +330,8 @@ module _ (b : Builder) (w : List ℕ) (f : Holding b w) where
   -- ---- a program's numbers
 
   module _ (hu : u < 2 ^ 64) (low : ℕ) (h : ℕ) (el : low ≡ lowLen u n) (eh : h ≡ highLen u n) where
-    pub product-fits : Fits w64 (m * low)
-    product-fits = limits.product-fits u n m hu (known .some) (known .most) (known .few) low el
+    pub low-bits-fit : Fits w64 (m * low)
+    low-bits-fit = limits.product-fits u n m hu (known .some) (known .most) (known .few) low el
 
     module _ (a d : ℕ) (ea : a ≡ wordsFor h) (ed : d ≡ wordsFor (m * low)) where
       high-words : a ≡ hw
@@ -340,8 +340,8 @@ module _ (b : Builder) (w : List ℕ) (f : Holding b w) where
       few-words : d ≡ lw
       few-words = ed ∙ ap (λ (k : ℕ). wordsFor (m * k)) el
 
-      pub ones-fits : Fits w64 (6 + a + d)
-      ones-fits = limits.ones-fits u n m hu (known .some) (known .most) (known .few) a d high-words few-words
+      pub ones-at-fits : Fits w64 (6 + a + d)
+      ones-at-fits = limits.ones-fits u n m hu (known .some) (known .most) (known .few) a d high-words few-words
 
       pub high-in : 6 + a ≤ length w
       high-in = let e = high-words in let g = long in omega arith

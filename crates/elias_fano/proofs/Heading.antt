@@ -11,9 +11,10 @@ use mir.Val.{Fits}
 use lib.ListN.{length, getD}
 use Rattle.darray.specs.Pending.{Decides}
 use Rattle.darray.proofs.Matching.{it-is, it-is-not}
+use Rattle.elias_fano_words.proofs.Truth.{true-false}
 use Rattle.elias_fano.specs.declared.image.Parts.{Parts}
 use Rattle.elias_fano.specs.Accept.{universe, declared, pushed, ranked, accepted, indexLen, partsBy, partsOf}
-use Rattle.elias_fano.specs.Opening.{highOf, zerosIn, endIn, Counts, Limits, Whole, Headed}
+use Rattle.elias_fano.specs.Opening.{highOf, zerosIn, endIn, Counts, Limits, Complete, Headed}
 use Rattle.elias_fano.proofs.Accepting.{found}
 use Rattle.elias_fano.proofs.Limits as limits
 
@@ -21,20 +22,17 @@ fifth-le : (b : Bool) (k x : ℕ) → (b ≡ false → x ≡ 0) → x ≤ cond b
 fifth-le true k x z = omega arith
 fifth-le false k x z = let e = z refl in omega arith
 
-true-false : true ≡ false → ⊥
-true-false x = let z : _≡_ {A = ℕ} 0 1 = cc in omega arith
-
 -- ---- the limits
 
 module _ (n m c : ℕ) where
-  pub none-declared : n ≡ 0 → Decides false (Counts n m c)
-  none-declared h = it-is-not (λ (l : Counts n m c). omega (arith, l .some))
+  pub no-count : n ≡ 0 → Decides false (Counts n m c)
+  no-count h = it-is-not (λ (l : Counts n m c). omega (arith, l .some))
 
-  pub many-declared : 16777216 < n → Decides false (Counts n m c)
-  many-declared h = it-is-not (λ (l : Counts n m c). omega (arith, l .most))
+  pub large-count : 16777216 < n → Decides false (Counts n m c)
+  large-count h = it-is-not (λ (l : Counts n m c). omega (arith, l .most))
 
-  pub past-declared : n < m → Decides false (Counts n m c)
-  past-declared h = it-is-not (λ (l : Counts n m c). omega (arith, l .few))
+  pub pushed-past : n < m → Decides false (Counts n m c)
+  pushed-past h = it-is-not (λ (l : Counts n m c). omega (arith, l .few))
 
   pub choice : (n ≡ 0 → ⊥) → n ≤ 16777216 → m ≤ n → Decides (leb c 1) (Counts n m c)
   choice some most few = go (leb c 1) refl
@@ -94,24 +92,24 @@ module _ (i : List ℕ) where
     end-is : p .«zeros_at» + z ≡ endIn i
     end-is = ap₂ (λ (a b : ℕ). a + b) zeros-is (ez ∙ (λ x. cond (rank-is x) (indexLen (high-is x - pushed-is x) (getD i 5 0)) 0))
 
-    pub other-length : (p .«zeros_at» + z ≡ length i → ⊥) → Decides false (Whole i)
-    other-length h = it-is-not (λ (w : Whole i). h (end-is ∙ sym (w .long)))
+    pub other-length : (p .«zeros_at» + z ≡ length i → ⊥) → Decides false (Complete i)
+    other-length h = it-is-not (λ (w : Complete i). h (end-is ∙ sym (w .long)))
 
     module _ (e : p .«zeros_at» + z ≡ length i) where
-      pub with-rank : p .rank ≡ true → Decides true (Whole i)
+      pub with-rank : p .rank ≡ true → Decides true (Complete i)
       with-rank r = it-is (record { none = λ f. absurd (true-false (sym r ∙ rank-is ∙ f)); long = sym e ∙ end-is })
 
-      pub without-rank : p .rank ≡ false → Decides (eqb (getD i 5 0) 0) (Whole i)
+      pub without-rank : p .rank ≡ false → Decides (eqb (getD i 5 0) 0) (Complete i)
       without-rank r = go (eqb (getD i 5 0) 0) refl
         where
-          go : (b : Bool) → eqb (getD i 5 0) 0 ≡ b → Decides b (Whole i)
+          go : (b : Bool) → eqb (getD i 5 0) 0 ≡ b → Decides b (Complete i)
           go true d = it-is (record { none = λ _. eqb-true _ _ d; long = sym e ∙ end-is })
-          go false d = it-is-not (λ (w : Whole i). eqb-false _ _ d (w .none (sym rank-is ∙ r)))
+          go false d = it-is-not (λ (w : Complete i). eqb-false _ _ d (w .none (sym rank-is ∙ r)))
 
-  pub whole-of : accepted i ≡ true → Whole i
-  whole-of a = let f = found i a .head in record { none = f .none; long = f .long }
+  pub complete-of : accepted i ≡ true → Complete i
+  complete-of a = let f = found i a .head in record { none = f .none; long = f .long }
 
-  pub heads : Limits i → Whole i → Headed i
+  pub heads : Limits i → Complete i → Headed i
   heads g w = record {
     six = g .six;
     some = g .counts .some;
@@ -125,13 +123,13 @@ module _ (i : List ℕ) where
   -- ---- the sizes in range
 
   module _ (hu : universe i < 2 ^ 64) (g : Limits i) (p : Parts) (ep : p ≡ partsOf i) where
-    pub high-small : p .«high_len» < 2 ^ 32
+    pub parts-high : p .«high_len» < 2 ^ 32
     unfolding partsBy
-    high-small = let e : p .«high_len» ≡ highOf i = ap (λ (q : Parts). q .«high_len») ep in let h = limits.high-small (universe i) (declared i) (pushed i) hu (g .counts .some) (g .counts .most) (g .counts .few) in omega arith
+    parts-high = let e : p .«high_len» ≡ highOf i = ap (λ (q : Parts). q .«high_len») ep in let h = limits.high-small (universe i) (declared i) (pushed i) hu (g .counts .some) (g .counts .most) (g .counts .few) in omega arith
 
-    pub pushed-le : p .«num_pushed» ≤ p .«high_len»
+    pub parts-pushed : p .«num_pushed» ≤ p .«high_len»
     unfolding partsBy
-    pushed-le =
+    parts-pushed =
         let e : p .«high_len» ≡ highOf i = ap (λ (q : Parts). q .«high_len») ep in
         let d : p .«num_pushed» ≡ pushed i = ap (λ (q : Parts). q .«num_pushed») ep in
         let h = limits.pushed-le (universe i) (declared i) (pushed i) hu (g .counts .some) (g .counts .most) (g .counts .few) in

@@ -18,11 +18,9 @@ use Rattle.darray.specs.declared.inner.Validated.{Validated}
 use Rattle.darray.specs.declared.inner.Validated.the-variants as validated
 use Rattle.darray.proofs.Cases.{validate-ok}
 use Rattle.darray.proofs.Matching.{same-refl, same-true}
+use Rattle.elias_fano_words.proofs.Truth.{true-false}
 use Rattle.elias_fano.specs.Accept.{ranked}
 use Rattle.elias_fano.specs.Opening.{highOf, onesIn, zerosIn, highIn, Indexes}
-
-true-false : true ≡ false → ⊥
-true-false e = let z : _≡_ {A = ℕ} 0 1 = cc in omega arith
 
 value-inj : (a b : ℕ) → value a ≡ value b → a ≡ b
 value-inj a b e = cc

@@ -2,11 +2,10 @@
 use mathlib.Core.Path.{_≡_, sym, ap, ap₂, _∙_, subst}
 use mathlib.Core.List.{List}
 use Prim.Native.Nat.{ℕ, _+_, _*_, _/_, _%_, _^_, _≤_, _<_}
-use native.Mathlib.Nat.{le-of-lt, mod-lt}
+use native.Mathlib.Nat.{mod-lt}
 use native.Mathlib.Omega.{arith}
 use mir.Syntax.{w64}
 use mir.Val.{Fits}
-use lib.ListN.{length}
 use lib.Pow.{pow-pos}
 use Rattle.bit_words.specs.Vector.{wordsFor, overwrite}
 use Rattle.elias_fano_words.specs.Sizes.{lowLen, highLen, startLen}
@@ -66,8 +65,8 @@ module _ (b : Builder) (t k : ℕ) (s : Sizes) (hu : b .universe < 2 ^ 64) (f : 
   product-small : m * low ≤ 16777216 * 63
   product-small = subst (λ (y : ℕ). m * y ≤ 16777216 * 63) (sym low-is) (limits.product-small u n m hu (known .some) (known .most) (known .few))
 
-  pub product-fits : Fits w64 (m * low)
-  product-fits = record { fits = let a = product-small in omega arith }
+  pub low-bit-fits : Fits w64 (m * low)
+  low-bit-fits = record { fits = let a = product-small in omega arith }
 
   pub bits-small : (x y : ℕ) → x ≡ y % 2 ^ low → x < 2 ^ low
   bits-small x y e = subst (λ (z : ℕ). z < 2 ^ low) (sym e) (mod-lt y (pow-pos low))

@@ -111,8 +111,8 @@ module _ (i : List ℕ) (ok : accepted i ≡ true) (p : Parts) (ep : p ≡ parts
     up-to : (k + 1) * p .«low_len» ≤ length T * l
     up-to = subst (λ (y : ℕ). (k + 1) * y ≤ length T * l) (sym low-len-is) (mul-le-mul (let g = in-list in let d : k + 1 ≤ length T = omega arith in d) (le-refl l))
 
-    pub held : Held (p .«low_len») (take (p .«ones_at» - p .«low_at») (drop (p .«low_at») i)) (k + 1)
-    held =
+    pub low-held : Held (p .«low_len») (take (p .«ones_at» - p .«low_at») (drop (p .«low_at») i)) (k + 1)
+    low-held =
         let a = up-to in
         let b = product-small in
         let e = ap length low-is ∙ length-numberWords lw (lowNumber l T) in
@@ -152,8 +152,8 @@ module _ (i : List ℕ) (ok : accepted i ≡ true) (p : Parts) (ep : p ≡ parts
       here : x ≡ placeOf l T k
       here = at-inj x (placeOf l T k) (sym e ∙ place-is)
 
-      pub after : k ≤ x
-      after = let a = here in omega arith
+      pub at-or-past : k ≤ x
+      at-or-past = let a = here in omega arith
 
       upper : x - k ≡ t / 2 ^ l
       upper = let a = here in let d : (y : ℕ) → y + k - k ≡ y = λ y. omega arith in ap (λ (y : ℕ). y - k) a ∙ d (t / 2 ^ l)
@@ -170,11 +170,11 @@ module _ (i : List ℕ) (ok : accepted i ≡ true) (p : Parts) (ep : p ≡ parts
         shifted : ((x - k) * 2 ^ p .«low_len») % 2 ^ 64 ≡ t / 2 ^ l * 2 ^ l
         shifted = ap₂ (λ (y z : ℕ). (y * 2 ^ z) % 2 ^ 64) upper low-len-is ∙ mod-eq-of-lt {n = t / 2 ^ l * 2 ^ l} {m = 2 ^ 64} small
 
-        pub time-is : ((x - k) * 2 ^ p .«low_len») % 2 ^ 64 + low ≡ t
-        time-is = ap₂ (λ (a b : ℕ). a + b) shifted lower ∙ split t l
+        pub value-is : ((x - k) * 2 ^ p .«low_len») % 2 ^ 64 + low ≡ t
+        value-is = ap₂ (λ (a b : ℕ). a + b) shifted lower ∙ split t l
 
-        pub time-fits : Fits w64 (((x - k) * 2 ^ p .«low_len») % 2 ^ 64 + low)
-        time-fits = record { fits = subst (λ (y : ℕ). y < 2 ^ 64) (sym time-is) time-small }
+        pub value-fits : Fits w64 (((x - k) * 2 ^ p .«low_len») % 2 ^ 64 + low)
+        value-fits = record { fits = subst (λ (y : ℕ). y < 2 ^ 64) (sym value-is) time-small }
 
   pub no-time : (k : ℕ) → p .«num_pushed» ≤ k → none ≡ timeOf i k
   unfolding timeOf

@@ -1,5 +1,5 @@
 -- What the tests of a builder, of its words and of a time find. Assumes nothing.
-use mathlib.Core.Path.{_≡_, refl, sym, ap, ap₂, _∙_, subst}
+use mathlib.Core.Path.{_≡_, refl, sym, ap, _∙_, subst}
 use mathlib.Core.List.{List}
 use mathlib.Core.Bool.{Bool, true, false, _&&_, cond}
 use Prim.Native.Nat.{ℕ, _-_, _*_, _≤_, _<_}
@@ -24,44 +24,44 @@ use Rattle.elias_fano.specs.declared.builder.TestedBuild.{TestedBuild}
 use Rattle.elias_fano.specs.declared.builder.TestedBuild.the-variants as tested-build
 use Rattle.elias_fano.specs.declared.finish.Plan.{Plan}
 use Rattle.elias_fano.specs.Finishing.{Holding, Finishable}
-use Rattle.elias_fano.specs.Steps.{newTest, sound, builderTest, timeTest, pushTest, heldWords, heldTimes, intact, imageOf, imageTest, buildTest}
+use Rattle.elias_fano.specs.Steps.{newTest, builderTest, timeTest, pushTest, heldWords, heldTimes, intact, imageTest, buildTest}
 use Rattle.elias_fano.specs.Testing.{Startable, TestsNew, Roomy, TestsBuilder, Fileable, TestsPush, TestsBuild}
 use Rattle.elias_fano.proofs.Cases as cases
 
 -- ---- what a match tells of a test
 
 module _ (u n k : ℕ) (r : Tested) (h : TestsNew u n k r) where
-  pub new-passed : (s : Sizes) → r ≡ tested.Passed s → Startable u n k s
-  new-passed s e = subst (TestsNew u n k) e h
+  pub passed-new : (s : Sizes) → r ≡ tested.Passed s → Startable u n k s
+  passed-new s e = subst (TestsNew u n k) e h
 
-  pub new-refused : (x : Refusal) → r ≡ tested.Refused x → newTest u n k ≡ refused (numberOf x)
-  new-refused x e = subst (TestsNew u n k) e h
+  pub refused-new : (x : Refusal) → r ≡ tested.Refused x → newTest u n k ≡ refused (numberOf x)
+  refused-new x e = subst (TestsNew u n k) e h
 
 module _ (b : Builder) (k : ℕ) (r : Tested) (h : TestsBuilder b k r) where
-  pub builder-passed : (s : Sizes) → r ≡ tested.Passed s → Roomy b k s
-  builder-passed s e = subst (TestsBuilder b k) e h
+  pub passed-builder : (s : Sizes) → r ≡ tested.Passed s → Roomy b k s
+  passed-builder s e = subst (TestsBuilder b k) e h
 
-  pub builder-refused : (x : Refusal) → r ≡ tested.Refused x → (others : Answer) → builderTest b k others ≡ refused (numberOf x)
-  builder-refused x e = subst (TestsBuilder b k) e h
+  pub refused-builder : (x : Refusal) → r ≡ tested.Refused x → (others : Answer) → builderTest b k others ≡ refused (numberOf x)
+  refused-builder x e = subst (TestsBuilder b k) e h
 
 module _ (b : Builder) (t k : ℕ) (r : Tested) (h : TestsPush b t k r) where
-  pub push-passed : (s : Sizes) → r ≡ tested.Passed s → Fileable b t k s
-  push-passed s e = subst (TestsPush b t k) e h
+  pub passed-push : (s : Sizes) → r ≡ tested.Passed s → Fileable b t k s
+  passed-push s e = subst (TestsPush b t k) e h
 
-  pub push-refused : (x : Refusal) → r ≡ tested.Refused x → pushTest b t k ≡ refused (numberOf x)
-  push-refused x e = subst (TestsPush b t k) e h
+  pub refused-push : (x : Refusal) → r ≡ tested.Refused x → pushTest b t k ≡ refused (numberOf x)
+  refused-push x e = subst (TestsPush b t k) e h
 
 module _ (b : Builder) (c : Bool) (w : List ℕ) (r : TestedBuild) (h : TestsBuild b c w r) where
-  pub build-passed : (p : Plan) → r ≡ tested-build.Passed p → Finishable b c p w × (p .end ≤ length w)
-  build-passed p e = subst (TestsBuild b c w) e h
+  pub passed-build : (p : Plan) → r ≡ tested-build.Passed p → Finishable b c p w × (p .end ≤ length w)
+  passed-build p e = subst (TestsBuild b c w) e h
 
-  pub build-refused : (x : Refusal) → r ≡ tested-build.Refused x → buildTest b c w ≡ refused (numberOf x)
-  build-refused x e = subst (TestsBuild b c w) e h
+  pub refused-build : (x : Refusal) → r ≡ tested-build.Refused x → buildTest b c w ≡ refused (numberOf x)
+  refused-build x e = subst (TestsBuild b c w) e h
 
 -- ---- nothing stands against a call
 
-pub new-done : (u n k : ℕ) (s : Sizes) → Startable u n k s → newTest u n k ≡ done
-new-done u n k s h = cases.new-passed u n k (h .some) (h .most) (h .long)
+pub nothing-against-new : (u n k : ℕ) (s : Sizes) → Startable u n k s → newTest u n k ≡ done
+nothing-against-new u n k s h = cases.new-passed u n k (h .some) (h .most) (h .long)
 
 module _ (b : Builder) (k : ℕ) (s : Sizes) (r : Roomy b k s) where
   -- what the later tests say is what all say
@@ -71,11 +71,11 @@ module _ (b : Builder) (k : ℕ) (s : Sizes) (r : Roomy b k s) where
   pub known : cases.Sound b
   known = cases.is-sound b (r .is-sound)
 
-pub push-done : (b : Builder) (t k : ℕ) (s : Sizes) → Fileable b t k s → pushTest b t k ≡ done
-push-done b t k s h = others b k s (h .roomy) (timeTest b t) ∙ cases.time-passed b t (h .after) (h .below) (h .more)
+pub nothing-against-push : (b : Builder) (t k : ℕ) (s : Sizes) → Fileable b t k s → pushTest b t k ≡ done
+nothing-against-push b t k s h = others b k s (h .roomy) (timeTest b t) ∙ cases.time-passed b t (h .after) (h .below) (h .more)
 
-pub build-done : (b : Builder) (c : Bool) (w : List ℕ) (p : Plan) → Finishable b c p w → p .end ≤ length w → buildTest b c w ≡ done
-build-done b c w p f room =
+pub nothing-against-build : (b : Builder) (c : Bool) (w : List ℕ) (p : Plan) → Finishable b c p w → p .end ≤ length w → buildTest b c w ≡ done
+nothing-against-build b c w p f room =
     cases.builder-passed b (length w) (imageTest b c w) (f .holding .is-sound) (f .holding .long)
     ∙ cases.image-passed b c w (f .holding .is-intact) (subst (λ (k : ℕ). k ≤ length w) (f .long) room)
 

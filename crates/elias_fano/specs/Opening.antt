@@ -45,7 +45,7 @@ pub record Limits (i : List ℕ) : Type 0 where
   pub zeros : getD i 5 0 ≤ length i
 
 -- the image has the length that its header gives
-pub record Whole (i : List ℕ) : Type 0 where
+pub record Complete (i : List ℕ) : Type 0 where
   pub none : ranked i ≡ false → getD i 5 0 ≡ 0
   pub long : length i ≡ endIn i
 
@@ -83,7 +83,7 @@ pub record Open (i : List ℕ) (p : Parts) (table : List ℕ) : Type 0 where
   pub rule : SelectInByte table
 
 -- the one of the time with the number k stands at the place x of the high bits
-pub record Placed (i : List ℕ) (p : Parts) (k x : ℕ) : Type 0 where
+pub record OneAt (i : List ℕ) (p : Parts) (k x : ℕ) : Type 0 where
   pub ok : accepted i ≡ true
   pub parts : p ≡ partsOf i
   pub below : k < p .«num_pushed»

@@ -9,7 +9,7 @@ ghost use Rattle.darray.specs.Pending.{Decides};
 ghost use Rattle.darray.specs.Positions.{positions};
 ghost use Rattle.elias_fano_words.specs.Times.{holds};
 ghost use Rattle.elias_fano.specs.Accept.{universe as universeOf, declared, pushed, indexLen, partsBy, partsOf, times, ofOpened, openOf, ofValue, timeOf, selectOf};
-ghost use Rattle.elias_fano.specs.Opening.{Counts, Limits, Whole, Headed, Heads, bitsIn, Indexes, Open, Placed};
+ghost use Rattle.elias_fano.specs.Opening.{Counts, Limits, Complete, Headed, Heads, bitsIn, Indexes, Open, OneAt};
 use bit_words::words_for;
 use broadword::Found;
 use broadword::select_in_byte_table;
@@ -145,9 +145,9 @@ fn parts_in(image: &[u64]) -> Parts
 }
 
 // Whether the parts give the image's length. No sum wraps, however large the numbers are.
-fn is_whole(image: &[u64], p: Parts) -> bool
+fn is_complete(image: &[u64], p: Parts) -> bool
     requires { ⌜ (Limits (now image) × (p ≡ partsOf (now image))) ⌝ }
-    ensures { λ r. ⌜ Decides r (Whole (now (image .entry))) ⌝ }
+    ensures { λ r. ⌜ Decides r (Complete (now (image .entry))) ⌝ }
 {
     let zeros = image[5] as usize;
     if p.zeros_at + zeros_len(p, zeros) != image.len() {
@@ -167,7 +167,7 @@ fn read_header(image: &[u64]) -> Header
         return Header::Wrong;
     }
     let p = parts_in(image);
-    if !is_whole(image, p) {
+    if !is_complete(image, p) {
         return Header::Wrong;
     }
     Header::Parts(p)
@@ -239,7 +239,7 @@ pub fn open(image: &[u64]) -> Opened
 
 // The value with the number k, whose one stands at `place`.
 fn value_at(image: &[u64], p: Parts, k: usize, place: usize) -> u64
-    requires { ⌜ Placed (now image) p k place ⌝ }
+    requires { ⌜ OneAt (now image) p k place ⌝ }
     ensures { λ r. ⌜ r ≡ getD (times (now (image .entry))) k 0 ⌝ }
 {
     let start = p.low_at;

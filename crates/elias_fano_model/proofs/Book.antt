@@ -20,7 +20,8 @@ use Rattle.elias_fano_words.specs.Image.{highFrom, highWords, lowNumber, image}
 use Rattle.elias_fano_words.specs.Times.{lastOf, bitWords, timesIn, holds}
 use Rattle.elias_fano_words.proofs.Decode.{times-of}
 use Rattle.elias_fano_words.proofs.Holds.{holds-words}
-use Rattle.elias_fano_words.proofs.Rising.{rising-none, rising-snoc, rising-lt, lastOf-snoc, lastOf-getD, true-and}
+use Rattle.elias_fano_words.proofs.Rising.{rising-none, rising-snoc, rising-lt, lastOf-snoc, lastOf-getD}
+use Rattle.elias_fano_words.proofs.Truth.{true-false, true-and}
 use Rattle.elias_fano.specs.declared.builder.Builder.{Builder}
 use Rattle.elias_fano.specs.Accept.{accepted}
 use Rattle.elias_fano.specs.Made.{Made, made, builder}
@@ -268,7 +269,7 @@ module _ (u n : ℕ) (lent : List ℕ) (begun : Begun u n lent) where
     is : s ≡ closedBook u n lent choice T
 
   open-goes-on : (a : Answer) (k : ℕ) → closes a ≡ false → a ≡ value k → ⊥
-  open-goes-on a k g e = let t : true ≡ false = ap closes (sym e) ∙ g in let z : _≡_ {A = ℕ} 0 1 = cc in omega arith
+  open-goes-on a k g e = true-false (ap closes (sym e) ∙ g)
 
   ends-build : (T : List ℕ) (c : Bool) (xs : List Call) (k : ℕ) → Fits u n T
       → ((s : Made) → closes (s .answer) ≡ false → endFrom s (bookFrom u n lent T xs) .answer ≡ value k → Ends (timesFrom u n lent T xs) (endFrom s (bookFrom u n lent T xs)))

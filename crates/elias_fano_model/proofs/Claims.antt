@@ -14,6 +14,7 @@ use Rattle.elias_fano_words.specs.Sizes.{startLen}
 use Rattle.elias_fano_words.specs.Image.{image}
 use Rattle.elias_fano_words.specs.Times.{rising, lastOf}
 use Rattle.elias_fano_words.proofs.Rising.{rising-first, lastOf-snoc}
+use Rattle.elias_fano_words.proofs.Truth.{true-false}
 use Rattle.elias_fano.specs.Accept.{universe, declared, ranked, times, accepted, partsOf, parts, unopened, openOf, timeOf, selectOf}
 use Rattle.elias_fano.specs.Made.{Made}
 use Rattle.elias_fano.specs.declared.image.Parts.{Parts}
@@ -39,11 +40,11 @@ time-not false k e = none-not e
 asked-by : (i : List ℕ) (k : ℕ) (b : Bool) → accepted i ≡ b → (b ≡ true) ↔ (cond b (timeOf i k) (refused 7) ≡ refused 7 → ⊥)
 unfolding timeOf
 asked-by i k true e = ((λ _. time-not (ltb k (length (times i))) (getD (times i) k 0)), (λ _. refl))
-asked-by i k false e = ((λ (h : false ≡ true). let z : _≡_ {A = ℕ} 0 1 = cc in absurd (omega arith)), (λ h. absurd (h refl)))
+asked-by i k false e = ((λ (h : false ≡ true). absurd (true-false (sym h))), (λ h. absurd (h refl)))
 
 opening-by : (p : Parts) (b : Bool) → (b ≡ true) ↔ (cond b (parts p) (unopened 7) ≡ unopened 7 → ⊥)
 opening-by p true = ((λ _ (e : parts p ≡ unopened 7). let z : _≡_ {A = ℕ} 0 1 = cc in omega arith), (λ _. refl))
-opening-by p false = ((λ (h : false ≡ true). let z : _≡_ {A = ℕ} 0 1 = cc in absurd (omega arith)), (λ h. absurd (h refl)))
+opening-by p false = ((λ (h : false ≡ true). absurd (true-false (sym h))), (λ h. absurd (h refl)))
 
 pub asked : Asked
 unfolding openOf selectOf

@@ -1,8 +1,8 @@
 // Lists of calls on a record, performed one after the other as the model has them.
 ghost use mathlib.Core.Path.{_≡_};
 ghost use mathlib.Core.List.{List};
-ghost use Prim.Native.Nat.{ℕ, _+_, _*_, _/_, _≤_, _<_};
-ghost use lib.ListN.{length, set};
+ghost use Prim.Native.Nat.{ℕ, _+_, _*_, _/_, _<_};
+ghost use lib.ListN.{length};
 ghost use Rattle.elias_fano.specs.Made.{made, ofPushed, ofBuilt};
 ghost use Rattle.elias_fano_model.specs.Demand3.{stepOf, closes};
 ghost use Rattle.elias_fano_model.specs.Run.{callOf, kindOf, valueOf, ofReply, ofRan, ended, left, runOf};

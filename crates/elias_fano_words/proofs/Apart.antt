@@ -1,5 +1,5 @@
 -- The highest one of a quotient, from the highest ones of the two numbers, without a division. Assumes nothing.
-use mathlib.Core.Path.{_≡_, sym, ap, _∙_, subst, subst⁻¹}
+use mathlib.Core.Path.{_≡_, sym, ap, _∙_, subst}
 use Prim.Native.Nat.{ℕ, zero, suc, _+_, _-_, _*_, _/_, _%_, _^_, _≤_, _<_}
 use native.Mathlib.Nat.{div-eq-of-lt, div-lt-iff-lt-mul, le-div-iff-mul-le, lt-of-lt-of-le, le-of-lt, mul-le-mul, mul-comm, le-refl, lt-of-not-le}
 use native.Mathlib.Omega.{arith}
@@ -24,9 +24,9 @@ low-by u n l s a b =
     omega arith) in
     sym (ap (λ (f : Found). orElse f 0) (last-at (bit q) 64 l s one (λ j g h. bit-above q j (lt-of-lt-of-le b (pow-mono (let d : l + 1 ≤ j = omega arith in d))))))
 
-pub low-none : (u n : ℕ) → u < n → 0 ≡ lowLen u n
+pub quotient-none : (u n : ℕ) → u < n → 0 ≡ lowLen u n
 unfolding lowLen bit
-low-none u n h =
+quotient-none u n h =
     let e : u / n ≡ 0 = div-eq-of-lt {n = u} {m = n} h in
     sym (ap (λ (f : Found). orElse f 0) (last-none (bit (u / n)) 64 (λ j g. ap (λ (q : ℕ). q / 2 ^ j % 2) e ∙ zero-bit j)))
   where

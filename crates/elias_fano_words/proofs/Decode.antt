@@ -39,7 +39,7 @@ unfolding bitAt
 bitAt-past ws i h = ap (λ (w : ℕ). bit w (i % 64)) (getD-past ws (i / 64) (omega arith)) ∙ bit-above 0 (i % 64) (pow-pos (i % 64))
 
 -- words after them
-pub bitAt-append : (A B : List ℕ) (i : ℕ) → i < length A * 64 → bitAt (A ++ B) i ≡ bitAt A i
+bitAt-append : (A B : List ℕ) (i : ℕ) → i < length A * 64 → bitAt (A ++ B) i ≡ bitAt A i
 unfolding bitAt
 bitAt-append A B i h = ap (λ (w : ℕ). bit w (i % 64)) (List·getD-append A B 0 (i / 64) (omega arith))
 

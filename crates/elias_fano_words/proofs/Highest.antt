@@ -1,6 +1,6 @@
 -- The place of a number's highest one, as `last` of its bits, and the powers that the number is between. Assumes nothing.
-use mathlib.Core.Path.{_≡_, sym, _∙_, subst, subst⁻¹}
-use Prim.Native.Nat.{ℕ, _+_, _*_, _/_, _^_, _≤_, _<_}
+use mathlib.Core.Path.{_≡_, _∙_, subst, subst⁻¹}
+use Prim.Native.Nat.{ℕ, _+_, _/_, _^_, _≤_, _<_}
 use native.Mathlib.Nat.{lt-of-le-of-lt, lt-of-lt-of-le, div-le-self, div-lt-iff-lt-mul, one-mul, lt-of-not-le}
 use native.Mathlib.Decide.{decLt}
 use native.Mathlib.Omega.{arith}
@@ -30,8 +30,8 @@ pub none-zero : (q : ℕ) → q < 2 ^ 64 → last (bit q) 64 ≡ Nothing → q �
 none-zero q h e = no-bits q h (λ j l. not-one (bit q j) (bit-le q j) (last-nothing (bit q) 64 e j l))
 
 -- one that has some is at least the power of its highest
-at-least : (q i : ℕ) → last (bit q) 64 ≡ At i → 2 ^ i ≤ q
-at-least q i e = go (decLt q (2 ^ i))
+least : (q i : ℕ) → last (bit q) 64 ≡ At i → 2 ^ i ≤ q
+least q i e = go (decLt q (2 ^ i))
   where
     go : Dec (q < 2 ^ i) → 2 ^ i ≤ q
     go (yes l) = let a = bit-above q i l in let b = last-is (bit q) 64 i e .one in absurd (omega arith)
@@ -43,7 +43,7 @@ pub record Highest (x i : ℕ) : Type 0 where
   pub small : i < 64
 
 pub highest : (x i : ℕ) → x < 2 ^ 64 → last (bit x) 64 ≡ At i → Highest x i
-highest x i h e = record { low = at-least x i e; high = below-next x i h e; small = last-is (bit x) 64 i e .within }
+highest x i h e = record { low = least x i e; high = below-next x i h e; small = last-is (bit x) 64 i e .within }
 
 -- what is positive has one
 pub has-one : (x : ℕ) → x < 2 ^ 64 → 0 < x → last (bit x) 64 ≡ Nothing → ⊥

@@ -34,7 +34,8 @@ use Rattle.elias_fano_words.specs.Image.{highFrom, lowNumber, highWords}
 use Rattle.elias_fano_words.specs.Times.{rising, bitWords, timeIn, timesIn, holds}
 use Rattle.elias_fano_words.specs.Checks.{lowBits, InOrder}
 use Rattle.elias_fano_words.proofs.Ordering.{Ordered}
-use Rattle.elias_fano_words.proofs.Rising.{and-true, true-and, rising-lt, rising-le, rising-pairs}
+use Rattle.elias_fano_words.proofs.Rising.{rising-lt, rising-le, rising-pairs}
+use Rattle.elias_fano_words.proofs.Truth.{and-true, true-and}
 use Rattle.elias_fano_words.proofs.Encode.{low-lt}
 use Rattle.elias_fano_words.proofs.Ones.{placeOf}
 use Rattle.elias_fano_words.proofs.Decode.{clear-number, low-number, low-words, select-high, count-high, clear-high, length-high, length-words, time-of, times-of}
@@ -87,7 +88,7 @@ module _ (u n : ℕ) (T : List ℕ) (r : rising u 0 T ≡ true) (few : length T 
       le-trans (le-of-eq (low-is c (numbered i a)))
       (le-trans (low-le (2 ^ l) (getD T c 0) (getD T (suc c) 0) t (omega arith)) (le-of-eq (sym (low-is (suc c) m))))
 
-  pub ordered-of : Ordered u n (length T) (highWords u n T) lows
+  ordered-of : Ordered u n (length T) (highWords u n T) lows
   ordered-of = record {
     high-clear = clear-high u n T r few;
     ones = count-high u n T r few;

@@ -13,5 +13,6 @@ pub mod Ordering
 pub mod Pairs
 pub mod Reading
 pub mod Rising
+pub mod Truth
 pub mod Unset
 pub mod Valid

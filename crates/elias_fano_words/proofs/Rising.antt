@@ -1,7 +1,7 @@
 -- Times in order: how a list of them grows by one, what each of them has, and a table of them. Assumes nothing.
 use mathlib.Core.Path.{_≡_, refl, sym, ap, _∙_, subst}
 use mathlib.Core.List.{List, [], _∷_, _++_, append-assoc, append-nil}
-use mathlib.Core.Bool.{Bool, true, false, _&&_}
+use mathlib.Core.Bool.{true, _&&_}
 use Prim.Native.Nat.{ℕ, zero, suc, _+_, _-_, _≤_, _<_, zero-le, suc-le-suc}
 use native.Mathlib.Nat.{le-refl, le-trans, lt-of-le-of-lt, le-of-suc-le-suc, not-suc-le-zero, add-zero, zero-lt-suc}
 use native.Mathlib.Numerals.{add-one}
@@ -12,16 +12,9 @@ use lib.ListN.{length, getD}
 use Rattle.darray.specs.Index.{table}
 use Rattle.darray.proofs.Index.{length-table, getD-table}
 use Rattle.elias_fano_words.specs.Times.{rising, lastFrom, lastOf}
+use Rattle.elias_fano_words.proofs.Truth.{and-true, true-and}
 
 -- ---- a test of two parts
-
-pub and-true : (a b : Bool) → (a && b) ≡ true → (a ≡ true) × (b ≡ true)
-and-true true b e = (refl, e)
-and-true false b e = let z : _≡_ {A = ℕ} 0 1 = cc in absurd (omega arith)
-
-pub true-and : (a b : Bool) → a ≡ true → b ≡ true → (a && b) ≡ true
-true-and true b e d = d
-true-and false b e d = e
 
 -- ---- the first time, and the rest
 

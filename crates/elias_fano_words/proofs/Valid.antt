@@ -27,7 +27,7 @@ unfolding highWords
 fit-high u n T = fit-numberWords (wordsFor (highLen u n)) (highFrom (lowLen u n) 0 T)
 
 -- words without a bit from the place len on have no padding
-pub valid-clear : (ws : List ℕ) (len : ℕ) → Fit ws → wordsFor len ≤ length ws → Clear ws len → invalid ws len ≡ false
+valid-clear : (ws : List ℕ) (len : ℕ) → Fit ws → wordsFor len ≤ length ws → Clear ws len → invalid ws len ≡ false
 valid-clear ws len fit room clear = go (ℕ-discrete (len % 64) 0)
   where
     w : ℕ

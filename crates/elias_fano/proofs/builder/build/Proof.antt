@@ -1,3 +1,5 @@
+-- `elias_fano::builder::build` meets its contract.
+-- Assumes nothing.
 use borrow.Author.Needs.{needs}
 use mathlib.Core.Path.{sym, ap₂, _∙_}
 use mathlib.Core.List.{List}
@@ -16,7 +18,7 @@ enum-known-p : tie.Need-enum-known-p
 enum-known-p c = search needs
 
 write-image-requires : tie.Need-write-image-requires
-write-image-requires c κs = testing.build-passed _ _ _ _ (c .before .before .before .before .test-build .ensures) _ (c .before .before .p .given .1)
+write-image-requires c κs = testing.passed-build _ _ _ _ (c .before .before .before .before .test-build .ensures) _ (c .before .before .p .given .1)
 
 enum-known-e : tie.Need-enum-known-e
 enum-known-e c = search needs
@@ -27,15 +29,15 @@ same-length c = search needs
 returns : tie.Need-returns
 returns c =
     let s = c .before .before .before .before .before .before .before .before .before .before in
-    let h = testing.build-passed _ _ _ _ (c .before .before .before .before .before .before .before .test-build .ensures) _ (c .before .before .before .before .before .p .given .1) in
+    let h = testing.passed-build _ _ _ _ (c .before .before .before .before .before .before .before .test-build .ensures) _ (c .before .before .before .before .before .p .given .1) in
     ap₂ (λ (k : ℕ) (w : List ℕ). made (value k) (s .args .b) w) (h .0 .long) (c .before .before .write-image .ensures)
-    ∙ sym (cases.build-done (s .args .b) (s .args .rank) (s .args .buffer .now) (testing.build-done _ _ _ _ (h .0) (h .1)))
+    ∙ sym (cases.build-done (s .args .b) (s .args .rank) (s .args .buffer .now) (testing.nothing-against-build _ _ _ _ (h .0) (h .1)))
 
 same-length-2 : tie.Need-same-length-2
 same-length-2 c = search needs
 
 returns-2 : tie.Need-returns-2
-returns-2 c = sym (cases.build-refused _ _ _ _ (testing.build-refused _ _ _ _ (c .before .before .before .test-build .ensures) _ (c .before .e .given .1)))
+returns-2 c = sym (cases.build-refused _ _ _ _ (testing.refused-build _ _ _ _ (c .before .before .before .test-build .ensures) _ (c .before .e .given .1)))
 
 pub build-spec : {M : Type 1} → statement M
 build-spec =

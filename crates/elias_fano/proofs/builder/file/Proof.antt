@@ -1,3 +1,5 @@
+-- `elias_fano::builder::file` meets its contract.
+-- Assumes nothing.
 use borrow.Author.Needs.{needs}
 use mathlib.Core.Path.{ap, _∙_}
 use mathlib.Core.List.{List}
@@ -36,7 +38,7 @@ mul-put-bits : tie.Need-mul-put-bits
 mul-put-bits c = let s = c .before .before .before .before .before .before .before in placing.low-words-fit _ _ _ _ (omega (arith, s .good .0)) (s .pre) _ (c .words-for .ensures)
 
 mul-put-bits-2 : tie.Need-mul-put-bits-2
-mul-put-bits-2 c = let s = c .before .before .before .before .before .before .before in placing.product-fits _ _ _ _ (omega (arith, s .good .0)) (s .pre)
+mul-put-bits-2 c = let s = c .before .before .before .before .before .before .before in placing.low-bit-fits _ _ _ _ (omega (arith, s .good .0)) (s .pre)
 
 add-put-bits-2 : tie.Need-add-put-bits-2
 add-put-bits-2 c = let s = c .before .before .before .before .before .before .before in placing.low-place-fits _ _ _ _ (omega (arith, s .good .0)) (s .pre) _ (c .words-for .ensures)

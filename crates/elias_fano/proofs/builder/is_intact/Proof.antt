@@ -1,3 +1,5 @@
+-- `elias_fano::builder::is_intact` meets its contract.
+-- Assumes nothing.
 use borrow.Author.Needs.{needs}
 use Rattle.elias_fano.proofs.Testing as testing
 use Rattle.elias_fano.proofs.builder.is_intact.Statement.{statement}

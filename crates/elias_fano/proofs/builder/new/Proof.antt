@@ -1,3 +1,5 @@
+-- `elias_fano::builder::new` meets its contract.
+-- Assumes nothing.
 use borrow.Author.Needs.{needs}
 use mathlib.Core.Path.{sym, ap, _∙_, subst}
 use mathlib.Core.List.{_++_}
@@ -18,7 +20,7 @@ enum-known-s : tie.Need-enum-known-s
 enum-known-s c = search needs
 
 fill-requires : tie.Need-fill-requires
-fill-requires c κs = let h = testing.new-passed _ _ _ _ (c .before .before .before .before .test-new .ensures) _ (c .before .before .s .given .1) in subst (λ (z : Sizes). z .«start_len» ≤ length (c .before .before .before .before .before .before .args .buffer .now)) (sym (h .sizes)) (h .long)
+fill-requires c κs = let h = testing.passed-new _ _ _ _ (c .before .before .before .before .test-new .ensures) _ (c .before .before .s .given .1) in subst (λ (z : Sizes). z .«start_len» ≤ length (c .before .before .before .before .before .before .args .buffer .now)) (sym (h .sizes)) (h .long)
 
 enum-known-e : tie.Need-enum-known-e
 enum-known-e c = search needs
@@ -29,12 +31,12 @@ same-length c = search needs
 returns : tie.Need-returns
 returns c =
     let s = c .before .before .before .before .before .before .before .before .before in
-    let h = testing.new-passed _ _ _ _ (c .before .before .before .before .before .before .before .test-new .ensures) _ (c .before .before .before .before .before .s .given .1) in
+    let h = testing.passed-new _ _ _ _ (c .before .before .before .before .before .before .before .test-new .ensures) _ (c .before .before .before .before .before .s .given .1) in
     ap (made done (builder (s .args .universe) (s .args .num-vals) 0 0)) (c .before .before .fill .ensures ∙ ap (λ (z : Sizes). replicate (z .«start_len») 0 ++ drop (z .«start_len») (s .args .buffer .now)) (h .sizes))
-    ∙ sym (cases.new-done (s .args .universe) (s .args .num-vals) (s .args .buffer .now) (testing.new-done _ _ _ _ h))
+    ∙ sym (cases.new-done (s .args .universe) (s .args .num-vals) (s .args .buffer .now) (testing.nothing-against-new _ _ _ _ h))
 
 returns-2 : tie.Need-returns-2
-returns-2 c = sym (cases.new-refused _ _ _ _ (testing.new-refused _ _ _ _ (c .before .before .before .test-new .ensures) _ (c .before .e .given .1)))
+returns-2 c = sym (cases.new-refused _ _ _ _ (testing.refused-new _ _ _ _ (c .before .before .before .test-new .ensures) _ (c .before .e .given .1)))
 
 pub new-spec : {M : Type 1} → statement M
 new-spec =

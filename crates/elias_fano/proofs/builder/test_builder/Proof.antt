@@ -1,3 +1,5 @@
+-- `elias_fano::builder::test_builder` meets its contract.
+-- Assumes nothing.
 use borrow.Author.Needs.{needs}
 use mathlib.Core.Path.{sym, _∙_, subst}
 use Prim.Native.Nat.{_≤_, _<_}

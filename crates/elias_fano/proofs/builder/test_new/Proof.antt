@@ -1,3 +1,5 @@
+-- `elias_fano::builder::test_new` meets its contract.
+-- Assumes nothing.
 use borrow.Author.Needs.{needs}
 use mathlib.Core.Path.{subst}
 use Prim.Native.Nat.{_≤_, _<_}

@@ -1,3 +1,5 @@
+-- `elias_fano::builder::test_push` meets its contract.
+-- Assumes nothing.
 use borrow.Author.Needs.{needs}
 use Rattle.elias_fano.proofs.Testing as testing
 use Rattle.elias_fano.proofs.builder.test_push.Statement.{statement}
@@ -10,7 +12,7 @@ enum-known-s : tie.Need-enum-known-s
 enum-known-s c = search needs
 
 test-value-requires : tie.Need-test-value-requires
-test-value-requires c κs = testing.builder-passed _ _ _ (c .before .before .before .test-builder .ensures) _ (c .before .s .given .1)
+test-value-requires c κs = testing.passed-builder _ _ _ (c .before .before .before .test-builder .ensures) _ (c .before .s .given .1)
 
 enum-known-e : tie.Need-enum-known-e
 enum-known-e c = search needs
@@ -19,7 +21,7 @@ returns : tie.Need-returns
 returns c = search needs
 
 returns-2 : tie.Need-returns-2
-returns-2 c = testing.builder-refused _ _ _ (c .before .before .before .test-builder .ensures) _ (c .before .e .given .1) _
+returns-2 c = testing.refused-builder _ _ _ (c .before .before .before .test-builder .ensures) _ (c .before .e .given .1) _
 
 pub test-push-spec : {M : Type 1} → statement M
 test-push-spec =

@@ -1,3 +1,5 @@
+-- `elias_fano::builder::test_value` meets its contract.
+-- Assumes nothing.
 use borrow.Author.Needs.{needs}
 use mathlib.Core.Path.{_∙_}
 use Rattle.elias_fano.proofs.Cases as cases

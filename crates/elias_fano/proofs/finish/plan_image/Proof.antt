@@ -1,3 +1,5 @@
+-- `elias_fano::finish::plan_image` meets its contract.
+-- Assumes nothing.
 use borrow.Author.Needs.{needs}
 use native.Mathlib.Omega.{arith}
 use Rattle.elias_fano.proofs.Finished as finished
@@ -11,13 +13,13 @@ add-low-at : tie.Need-add-low-at
 add-low-at c = search needs
 
 mul-words-for : tie.Need-mul-words-for
-mul-words-for c = let s = c .before .before in finished.product-fits (s .args .b) (s .args .words .now) (s .pre .0) (omega (arith, s .good .1 .0)) (s .args .low-len) (s .args .high-len) (s .pre .1) (s .pre .2)
+mul-words-for c = let s = c .before .before in finished.low-bits-fit (s .args .b) (s .args .words .now) (s .pre .0) (omega (arith, s .good .1 .0)) (s .args .low-len) (s .args .high-len) (s .pre .1) (s .pre .2)
 
 words-for-requires-2 : tie.Need-words-for-requires-2
 words-for-requires-2 c κs = search needs
 
 add-ones-at : tie.Need-add-ones-at
-add-ones-at c = let s = c .before .before .before in finished.ones-fits (s .args .b) (s .args .words .now) (s .pre .0) (omega (arith, s .good .1 .0)) (s .args .low-len) (s .args .high-len) (s .pre .1) (s .pre .2) _ _ (c .before .words-for .ensures) (c .words-for2 .ensures)
+add-ones-at c = let s = c .before .before .before in finished.ones-at-fits (s .args .b) (s .args .words .now) (s .pre .0) (omega (arith, s .good .1 .0)) (s .args .low-len) (s .args .high-len) (s .pre .1) (s .pre .2) _ _ (c .before .words-for .ensures) (c .words-for2 .ensures)
 
 sub-plan-indexes : tie.Need-sub-plan-indexes
 sub-plan-indexes c = search needs

@@ -1,3 +1,5 @@
+-- `elias_fano::finish::plan_indexes` meets its contract.
+-- Assumes nothing.
 use borrow.Author.Needs.{needs}
 use Rattle.elias_fano.proofs.Planning as planning
 use Rattle.elias_fano.proofs.finish.plan_indexes.Statement.{statement}

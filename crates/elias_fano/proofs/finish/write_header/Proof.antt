@@ -1,3 +1,5 @@
+-- `elias_fano::finish::write_header` meets its contract.
+-- Assumes nothing.
 use borrow.Author.Needs.{needs}
 use Prim.Native.Nat.{_<_}
 use native.Mathlib.Omega.{arith}

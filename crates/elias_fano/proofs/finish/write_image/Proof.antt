@@ -1,3 +1,5 @@
+-- `elias_fano::finish::write_image` meets its contract.
+-- Assumes nothing.
 use borrow.Author.Needs.{needs}
 use native.Mathlib.Omega.{arith}
 use Rattle.elias_fano.proofs.Finished as finished
@@ -11,13 +13,13 @@ write-within-requires : tie.Need-write-within-requires
 write-within-requires c κs =
     let s = c .before .before .before .before .before .before .before .before in
     let f = s .pre .0 in
-    finished.ones-writable (s .args .b) (s .args .buffer .now) (f .holding) (s .args .rank) (s .args .p) (f .planned) _ (f .planned .high) (omega (arith, s .good .1 .0)) (s .pre .1) _ (c .before .before .before .write-header .ensures)
+    finished.first-writable (s .args .b) (s .args .buffer .now) (f .holding) (s .args .rank) (s .args .p) (f .planned) _ (f .planned .high) (omega (arith, s .good .1 .0)) (s .pre .1) _ (c .before .before .before .write-header .ensures)
 
 write-zeros-requires : tie.Need-write-zeros-requires
 write-zeros-requires c κs =
     let s = c .before .before .before .before .before .before .before .before .before .before .before .before in
     let f = s .pre .0 in
-    finished.zeros-writable (s .args .b) (s .args .buffer .now) (f .holding) (s .args .rank) (s .args .p) (f .planned) _ (f .planned .high) (omega (arith, s .good .1 .0)) (s .pre .1) _ (c .before .before .before .before .before .before .before .write-header .ensures) _ (c .before .before .before .write-within .ensures)
+    finished.second-writable (s .args .b) (s .args .buffer .now) (f .holding) (s .args .rank) (s .args .p) (f .planned) _ (f .planned .high) (omega (arith, s .good .1 .0)) (s .pre .1) _ (c .before .before .before .before .before .before .before .write-header .ensures) _ (c .before .before .before .write-within .ensures)
 
 same-length : tie.Need-same-length
 same-length c = search needs

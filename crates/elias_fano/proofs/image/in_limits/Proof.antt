@@ -1,3 +1,5 @@
+-- `elias_fano::image::in_limits` meets its contract.
+-- Assumes nothing.
 use borrow.Author.Needs.{needs}
 use borrow.Author.Tests.{not-true, not-false}
 use Rattle.elias_fano.proofs.Heading as heading

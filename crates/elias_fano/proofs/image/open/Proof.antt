@@ -2,17 +2,12 @@
 -- Assumes nothing.
 use borrow.Author.Needs.{needs}
 use borrow.Author.Tests.{not-true, not-false}
-use mathlib.Core.Path.{_≡_, sym, _∙_}
-use mathlib.Core.Bool.{true, false}
-use Prim.Native.Nat.{ℕ}
-use native.Mathlib.Omega.{arith}
+use mathlib.Core.Path.{sym, _∙_}
+use Rattle.elias_fano_words.proofs.Truth.{true-false}
 use Rattle.elias_fano.proofs.Accepting.{accepts, found}
 use Rattle.elias_fano.proofs.Answers as answers
 use Rattle.elias_fano.proofs.image.open.Statement.{statement}
 use Rattle.elias_fano.proofs.image.open.Tie as tie
-
-true-false : true ≡ false → ⊥
-true-false e = let z : _≡_ {A = ℕ} 0 1 = cc in omega arith
 
 read-header-requires : tie.Need-read-header-requires
 read-header-requires c κs = search needs

@@ -15,16 +15,16 @@ select-in-byte-table-requires : tie.Need-select-in-byte-table-requires
 select-in-byte-table-requires c κs = search needs
 
 select-opened-requires : tie.Need-select-opened-requires
-select-opened-requires c κs = let h = answers.is-open _ _ (c .before .before .before .before .before .«open» .ensures) _ (c .before .before .before .p .given .1) in record { ok = h .0; parts = h .1; rule = c .before .select-in-byte-table .ensures }
+select-opened-requires c κs = let h = answers.is-open _ _ _ (c .before .before .before .before .before .«open» .ensures) (c .before .before .before .p .given .1) in record { ok = h .0; parts = h .1; rule = c .before .select-in-byte-table .ensures }
 
 enum-known-e : tie.Need-enum-known-e
 enum-known-e c = search needs
 
 returns : tie.Need-returns
-returns c = answers.select-time _ _ _ (answers.is-open _ _ (c .before .before .before .before .before .before .«open» .ensures) _ (c .before .before .before .before .p .given .1) .0) (c .select-opened .ensures)
+returns c = answers.select-time _ _ _ (answers.is-open _ _ _ (c .before .before .before .before .before .before .«open» .ensures) (c .before .before .before .before .p .given .1) .0) (c .select-opened .ensures)
 
 returns-2 : tie.Need-returns-2
-returns-2 c = answers.select-refused _ _ (c .before .before .before .«open» .ensures) _ _ (c .before .e .given .1)
+returns-2 c = answers.select-refused _ _ _ _ (c .before .before .before .«open» .ensures) (c .before .e .given .1)
 
 pub select-spec : {M : Type 1} → statement M
 select-spec =

@@ -1,3 +1,5 @@
+-- `elias_fano_words::sizes::low_len` meets its contract.
+-- Assumes nothing.
 use borrow.Author.Needs.{needs}
 use mathlib.Core.Path.{sym, _∙_}
 use native.Mathlib.Nat.{lt-of-lt-of-le}
@@ -7,7 +9,7 @@ use Rattle.elias_fano_words.proofs.sizes.low_len.Statement.{statement}
 use Rattle.elias_fano_words.proofs.sizes.low_len.Tie as tie
 
 returns : tie.Need-returns
-returns c = apart.low-none _ _ (c .if1 .taken)
+returns c = apart.quotient-none _ _ (c .if1 .taken)
 
 msb-requires : tie.Need-msb-requires
 msb-requires c κs = search needs

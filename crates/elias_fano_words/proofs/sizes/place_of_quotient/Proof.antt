@@ -1,3 +1,5 @@
+-- `elias_fano_words::sizes::place_of_quotient` meets its contract.
+-- Assumes nothing.
 use Rattle.elias_fano_words.proofs.Apart as apart
 use Rattle.elias_fano_words.proofs.Highest.{highest}
 use Rattle.elias_fano_words.proofs.sizes.place_of_quotient.Statement.{statement}
