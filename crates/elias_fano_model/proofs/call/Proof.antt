@@ -16,7 +16,7 @@ same-length : tie.Need-same-length
 same-length c = search needs
 
 returns : tie.Need-returns
-returns c = c .pushed .ensures _ ∙ c .before .before .before .push .ensures ∙ call-push (c .before .before .before .before .before .before .before .args .kind) (c .before .before .before .before .before .before .before .args .arg) (c .before .before .before .before .before .before .before .args .b) (c .before .before .before .before .before .before .before .args .buffer .now) (c .before .before .before .before .before .if1 .taken)
+returns c = let s = c .before .before .before .before .before .before .before in c .pushed .ensures _ ∙ c .before .before .before .push .ensures ∙ call-push (s .args .kind) (s .args .arg) (s .args .b) (s .args .buffer .now) (c .before .before .before .before .before .if1 .taken)
 
 build-requires : tie.Need-build-requires
 build-requires c κs = search needs
@@ -28,7 +28,7 @@ same-length-2 : tie.Need-same-length-2
 same-length-2 c = search needs
 
 returns-2 : tie.Need-returns-2
-returns-2 c = c .built .ensures _ ∙ c .before .before .before .build .ensures ∙ call-build (c .before .before .before .before .before .before .before .args .kind) (c .before .before .before .before .before .before .before .args .arg) (c .before .before .before .before .before .before .before .args .b) (c .before .before .before .before .before .before .before .args .buffer .now) (c .before .before .before .before .before .if1 .left)
+returns-2 c = let s = c .before .before .before .before .before .before .before in c .built .ensures _ ∙ c .before .before .before .build .ensures ∙ call-build (s .args .kind) (s .args .arg) (s .args .b) (s .args .buffer .now) (c .before .before .before .before .before .if1 .left)
 
 pub call-spec : {M : Type 1} → statement M
 call-spec =

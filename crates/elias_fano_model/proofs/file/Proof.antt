@@ -40,7 +40,7 @@ same-length c = search needs
 
 returns : tie.Need-returns
 unfolding filedAt
-returns c = ap₂ (λ (a b : ℕ). set (set (c .before .before .before .args .answers .now) (2 * c .before .before .before .args .k) a) (2 * c .before .before .before .args .k + 1) b) (c .before .kind-of .ensures) (c .value-of .ensures)
+returns c = let s = c .before .before .before in ap₂ (λ (a b : ℕ). set (set (s .args .answers .now) (2 * s .args .k) a) (2 * s .args .k + 1) b) (c .before .kind-of .ensures) (c .value-of .ensures)
 
 pub file-spec : {M : Type 1} → statement M
 file-spec =

@@ -23,7 +23,7 @@ file-requires : tie.Need-file-requires Inv-loop μ-loop
 file-requires c κs = omega (arith, c .before .before .before .before .pre)
 
 loop-holds : tie.Need-loop-holds Inv-loop μ-loop
-loop-holds c = let l = ap length (c .before .before .file .ensures) ∙ running.length-filed (c .before .before .before .before .before .before .before .args .answers .now) 0 _ in (omega arith, refl, refl, omega (arith, c .before .before .before .before .before .before .before .pre), refl)
+loop-holds c = let s = c .before .before .before .before .before .before .before in let l = ap length (c .before .before .file .ensures) ∙ running.length-filed (s .args .answers .now) 0 _ in (omega arith, refl, refl, omega (arith, s .pre), refl)
 
 sub-loop : tie.Need-sub-loop Inv-loop μ-loop
 sub-loop c = c .loop .inv .0
@@ -53,8 +53,9 @@ file-requires-2 c κs =
 
 add-count : tie.Need-add-count Inv-loop μ-loop
 add-count c =
-    let l = ap length (c .before .before .before .before .before .before .before .before .before .before .before .before .before .before .before .file .ensures) ∙ running.length-filed (c .before .before .before .before .before .before .before .before .before .before .before .before .before .before .before .before .before .before .before .before .args .answers .now) 0 _ in
-    record { fits = omega (arith, c .before .before .before .before .before .before .before .before .before .before .before .before .loop .inv .3, c .before .before .before .before .before .before .before .before .before .before .before .before .before .before .before .before .before .before .before .before .good) }
+    let s = c .before .before .before .before .before .before .before .before .before .before .before .before .before .before .before .before .before .before .before .before in
+    let l = ap length (c .before .before .before .before .before .before .before .before .before .before .before .before .before .before .before .file .ensures) ∙ running.length-filed (s .args .answers .now) 0 _ in
+    record { fits = omega (arith, c .before .before .before .before .before .before .before .before .before .before .before .before .loop .inv .3, s .good) }
 
 add-i : tie.Need-add-i Inv-loop μ-loop
 add-i c = record { fits = omega (arith, c .before .before .before .before .before .before .before .before .before .before .before .before .loop .inv .0, c .before .before .before .before .before .before .before .before .before .before .before .loop-test .taken, c .before .before .before .before .before .before .before .before .before .before .before .before .before .before .before .before .before .before .before .before .good) }
@@ -72,21 +73,22 @@ same-length-2 c =
 
 returns : tie.Need-returns Inv-loop μ-loop
 returns c =
+    let s = c .before .before .before .before .before .before .before .before .before .before .before .before .before .before .before .before .before .before .before .before .before .before in
     ap (λ (a : List ℕ). left (ended (c .before .before .before .before .before .before .before .before .before .call .result .builder) (c .before .before .before .before .before .before .before .before .before .before .before .before .before .before .loop .count + 1)) (c .before .before .before .before .before .before .before .before .before .call .last .1 .1 .1 .0) a) (c .before .before .before .before .file2 .ensures)
-    ∙ running.turn-last (c .before .before .before .before .before .before .before .before .before .before .before .before .before .before .loop .b) (c .before .before .before .before .before .before .before .before .before .call .result .builder) (c .before .before .before .before .before .before .before .before .before .before .before .before .before .before .loop .buffer) (c .before .before .before .before .before .before .before .before .before .call .last .1 .1 .1 .0) (c .before .before .before .before .before .before .before .before .before .before .before .before .before .before .loop .count) _ (c .before .before .before .before .before .before .before .before .before .before .before .before .before .before .loop .answers) (c .before .before .before .before .before .before .before .before .before .before .before .before .before .before .before .before .before .before .before .before .before .before .args .calls .now) (c .before .before .before .before .before .before .before .before .before .before .before .before .before .before .loop .i) (c .before .before .before .before .before .before .before .before .before .before .before .before .before .loop-test .taken) (c .before .before .before .before .before .before .before .before .before .call .ensures) (sym (c .before .is-last .ensures) ∙ c .if1 .taken)
-    ∙ c .before .before .before .before .before .before .before .before .before .before .before .before .before .before .loop .inv .4 ∙ ap (λ (a : List ℕ). goOn (c .before .before .before .before .before .before .before .before .before .before .before .before .before .before .before .before .before .before .before .before .before .before .args .first) (c .before .before .before .before .before .before .before .before .before .before .before .before .before .before .before .before .before .before .before .before .before .before .args .buffer .now) 1 a (decode (c .before .before .before .before .before .before .before .before .before .before .before .before .before .before .before .before .before .before .before .before .before .before .args .calls .now))) (c .before .before .before .before .before .before .before .before .before .before .before .before .before .before .before .before .before .file .ensures)
+    ∙ running.turn-last (c .before .before .before .before .before .before .before .before .before .before .before .before .before .before .loop .b) (c .before .before .before .before .before .before .before .before .before .call .result .builder) (c .before .before .before .before .before .before .before .before .before .before .before .before .before .before .loop .buffer) (c .before .before .before .before .before .before .before .before .before .call .last .1 .1 .1 .0) (c .before .before .before .before .before .before .before .before .before .before .before .before .before .before .loop .count) _ (c .before .before .before .before .before .before .before .before .before .before .before .before .before .before .loop .answers) (s .args .calls .now) (c .before .before .before .before .before .before .before .before .before .before .before .before .before .before .loop .i) (c .before .before .before .before .before .before .before .before .before .before .before .before .before .loop-test .taken) (c .before .before .before .before .before .before .before .before .before .call .ensures) (sym (c .before .is-last .ensures) ∙ c .if1 .taken)
+    ∙ c .before .before .before .before .before .before .before .before .before .before .before .before .before .before .loop .inv .4 ∙ ap (λ (a : List ℕ). goOn (s .args .first) (s .args .buffer .now) 1 a (decode (s .args .calls .now))) (c .before .before .before .before .before .before .before .before .before .before .before .before .before .before .before .before .before .file .ensures)
 
 loop-less : tie.Need-loop-less Inv-loop μ-loop
 loop-less c = omega (arith, c .before .before .before .before .before .before .before .before .before .before .before .before .before .before .loop .inv .0, c .before .before .before .before .before .before .before .before .before .before .before .before .before .loop-test .taken)
 
 loop-again : tie.Need-loop-again Inv-loop μ-loop
-loop-again c = (
+loop-again c = let s = c .before .before .before .before .before .before .before .before .before .before .before .before .before .before .before .before .before .before .before .before .before .before in (
   omega (arith, c .before .before .before .before .before .before .before .before .before .before .before .before .before .before .loop .inv .0, c .before .before .before .before .before .before .before .before .before .before .before .before .before .loop-test .taken),
   c .before .before .before .before .before .before .before .before .before .call .kept .1 .1 .1 .0 ∙ c .before .before .before .before .before .before .before .before .before .before .before .before .before .before .loop .inv .1,
   ap length (c .before .before .before .before .file2 .ensures) ∙ running.length-filed (c .before .before .before .before .before .before .before .before .before .before .before .before .before .before .loop .answers) (c .before .before .before .before .before .before .before .before .before .before .before .before .before .before .loop .count) _ ∙ c .before .before .before .before .before .before .before .before .before .before .before .before .before .before .loop .inv .2,
   omega (arith, c .before .before .before .before .before .before .before .before .before .before .before .before .before .before .loop .inv .3, c .before .before .before .before .before .before .before .before .before .before .before .before .before .loop-test .taken),
-  ap (λ (a : List ℕ). goOn (c .before .before .before .before .before .before .before .before .before .call .result .builder) (c .before .before .before .before .before .before .before .before .before .call .last .1 .1 .1 .0) (c .before .before .before .before .before .before .before .before .before .before .before .before .before .before .loop .count + 1) a (decode (drop (c .before .before .before .before .before .before .before .before .before .before .before .before .before .before .loop .i + 2) (c .before .before .before .before .before .before .before .before .before .before .before .before .before .before .before .before .before .before .before .before .before .before .args .calls .now)))) (c .before .before .before .before .file2 .ensures)
-      ∙ running.turn-on (c .before .before .before .before .before .before .before .before .before .before .before .before .before .before .loop .b) (c .before .before .before .before .before .before .before .before .before .call .result .builder) (c .before .before .before .before .before .before .before .before .before .before .before .before .before .before .loop .buffer) (c .before .before .before .before .before .before .before .before .before .call .last .1 .1 .1 .0) (c .before .before .before .before .before .before .before .before .before .before .before .before .before .before .loop .count) _ (c .before .before .before .before .before .before .before .before .before .before .before .before .before .before .loop .answers) (c .before .before .before .before .before .before .before .before .before .before .before .before .before .before .before .before .before .before .before .before .before .before .args .calls .now) (c .before .before .before .before .before .before .before .before .before .before .before .before .before .before .loop .i) (c .before .before .before .before .before .before .before .before .before .before .before .before .before .loop-test .taken) (c .before .before .before .before .before .before .before .before .before .call .ensures) (sym (c .before .is-last .ensures) ∙ c .if1 .left)
+  ap (λ (a : List ℕ). goOn (c .before .before .before .before .before .before .before .before .before .call .result .builder) (c .before .before .before .before .before .before .before .before .before .call .last .1 .1 .1 .0) (c .before .before .before .before .before .before .before .before .before .before .before .before .before .before .loop .count + 1) a (decode (drop (c .before .before .before .before .before .before .before .before .before .before .before .before .before .before .loop .i + 2) (s .args .calls .now)))) (c .before .before .before .before .file2 .ensures)
+      ∙ running.turn-on (c .before .before .before .before .before .before .before .before .before .before .before .before .before .before .loop .b) (c .before .before .before .before .before .before .before .before .before .call .result .builder) (c .before .before .before .before .before .before .before .before .before .before .before .before .before .before .loop .buffer) (c .before .before .before .before .before .before .before .before .before .call .last .1 .1 .1 .0) (c .before .before .before .before .before .before .before .before .before .before .before .before .before .before .loop .count) _ (c .before .before .before .before .before .before .before .before .before .before .before .before .before .before .loop .answers) (s .args .calls .now) (c .before .before .before .before .before .before .before .before .before .before .before .before .before .before .loop .i) (c .before .before .before .before .before .before .before .before .before .before .before .before .before .loop-test .taken) (c .before .before .before .before .before .before .before .before .before .call .ensures) (sym (c .before .is-last .ensures) ∙ c .if1 .left)
       ∙ c .before .before .before .before .before .before .before .before .before .before .before .before .before .before .loop .inv .4,
 )
 
@@ -98,8 +100,9 @@ same-length-4 c = c .before .loop .inv .2 ∙ ap length (c .before .before .befo
 
 returns-2 : tie.Need-returns-2 Inv-loop μ-loop
 returns-2 c =
-    running.turn-none (c .before .loop .b) (c .before .loop .buffer) (c .before .loop .count) (c .before .loop .answers) (c .before .before .before .before .before .before .before .before .before .args .calls .now) (c .before .loop .i) (c .loop-test .left)
-    ∙ c .before .loop .inv .4 ∙ ap (λ (a : List ℕ). goOn (c .before .before .before .before .before .before .before .before .before .args .first) (c .before .before .before .before .before .before .before .before .before .args .buffer .now) 1 a (decode (c .before .before .before .before .before .before .before .before .before .args .calls .now))) (c .before .before .before .before .file .ensures)
+    let s = c .before .before .before .before .before .before .before .before .before in
+    running.turn-none (c .before .loop .b) (c .before .loop .buffer) (c .before .loop .count) (c .before .loop .answers) (s .args .calls .now) (c .before .loop .i) (c .loop-test .left)
+    ∙ c .before .loop .inv .4 ∙ ap (λ (a : List ℕ). goOn (s .args .first) (s .args .buffer .now) 1 a (decode (s .args .calls .now))) (c .before .before .before .before .file .ensures)
 
 pub perform-spec : {M : Type 1} → statement M
 perform-spec =

@@ -29,13 +29,13 @@ same-length : tie.Need-same-length
 same-length c = search needs
 
 returns : tie.Need-returns
-returns c = let e = telling.words-told _ _ (c .before .before .before .before .before .before .before .inner .ensures) _ _ (λ (b : Builder). buildOf b (c .before .before .before .before .before .before .before .before .before .args .rank) (c .before .before .before .before .before .before .before .before .before .args .buffer .now)) (c .before .before .before .before .before .build .ensures) _ (c .before .k .given .1) in (ap (λ (m : Made). efAnswer (m .answer)) e, ap (λ (m : Made). m .words) e)
+returns c = let s = c .before .before .before .before .before .before .before .before .before in let e = telling.words-told _ _ (c .before .before .before .before .before .before .before .inner .ensures) _ _ (λ (b : Builder). buildOf b (s .args .rank) (s .args .buffer .now)) (c .before .before .before .before .before .build .ensures) _ (c .before .k .given .1) in (ap (λ (m : Made). efAnswer (m .answer)) e, ap (λ (m : Made). m .words) e)
 
 same-length-2 : tie.Need-same-length-2
 same-length-2 c = search needs
 
 returns-2 : tie.Need-returns-2
-returns-2 c = let e = telling.no-words-told _ _ (c .before .before .before .before .before .before .before .before .inner .ensures) _ _ (λ (b : Builder). buildOf b (c .before .before .before .before .before .before .before .before .before .before .args .rank) (c .before .before .before .before .before .before .before .before .before .before .args .buffer .now)) (c .before .before .before .before .before .before .build .ensures) _ _ (c .before .before .e .given .1) (c .number .ensures) in (ap (λ (m : Made). efAnswer (m .answer)) e, ap (λ (m : Made). m .words) e)
+returns-2 c = let s = c .before .before .before .before .before .before .before .before .before .before in let e = telling.no-words-told _ _ (c .before .before .before .before .before .before .before .before .inner .ensures) _ _ (λ (b : Builder). buildOf b (s .args .rank) (s .args .buffer .now)) (c .before .before .before .before .before .before .build .ensures) _ _ (c .before .before .e .given .1) (c .number .ensures) in (ap (λ (m : Made). efAnswer (m .answer)) e, ap (λ (m : Made). m .words) e)
 
 pub ef-build-spec : {M : Type 1} → statement M
 ef-build-spec =

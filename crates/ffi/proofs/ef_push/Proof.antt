@@ -21,7 +21,7 @@ same-length : tie.Need-same-length
 same-length c = search needs
 
 returns : tie.Need-returns
-returns c = c .told .ensures _ ∙ subst (λ (b : Builder). ofPushed b (c .before .before .before .push .result) (c .before .before .before .push .last .1 .1 .0) ≡ pushOf b (c .before .before .before .before .before .before .before .args .val) (c .before .before .before .before .before .before .before .args .buffer .now)) (c .before .before .before .before .before .inner .ensures) (c .before .before .before .push .ensures)
+returns c = let s = c .before .before .before .before .before .before .before in c .told .ensures _ ∙ subst (λ (b : Builder). ofPushed b (c .before .before .before .push .result) (c .before .before .before .push .last .1 .1 .0) ≡ pushOf b (s .args .val) (s .args .buffer .now)) (c .before .before .before .before .before .inner .ensures) (c .before .before .before .push .ensures)
 
 pub ef-push-spec : {M : Type 1} → statement M
 ef-push-spec = tie.close (tie.spec inner-requires push-requires told-requires same-length returns)

@@ -24,10 +24,10 @@ enum-told : tie.Need-enum-told
 enum-told c = search needs
 
 returns : tie.Need-returns
-returns c = testing.is-last _ (c .before .before .before .before .before .before .before .args .words .now) _ (c .before .before .before .before .before .before .before .pre) _ (c .before .before .before .before .check .ensures) _ (c .before .before .last .given .1)
+returns c = let s = c .before .before .before .before .before .before .before in testing.is-last _ (s .args .words .now) _ (s .pre) _ (c .before .before .before .before .check .ensures) _ (c .before .before .last .given .1)
 
 returns-2 : tie.Need-returns-2
-returns-2 c = testing.is-wrong _ (c .before .before .before .before .before .args .words .now) _ (c .before .before .before .before .before .pre) _ (c .before .before .check .ensures) (c .enum-told .given .1)
+returns-2 c = let s = c .before .before .before .before .before in testing.is-wrong _ (s .args .words .now) _ (s .pre) _ (c .before .before .check .ensures) (c .enum-told .given .1)
 
 pub is-intact-spec : {M : Type 1} → statement M
 is-intact-spec =

@@ -11,13 +11,13 @@ is-intact-requires : tie.Need-is-intact-requires
 is-intact-requires c κs = search needs
 
 returns : tie.Need-returns
-returns c = testing.bits-refused _ (c .before .before .before .args .words .now) _ (c .before .before .before .pre) _ (sym (c .before .is-intact .ensures) ∙ not-true _ (c .if1 .taken))
+returns c = let s = c .before .before .before in testing.bits-refused _ (s .args .words .now) _ (s .pre) _ (sym (c .before .is-intact .ensures) ∙ not-true _ (c .if1 .taken))
 
 plan-image-requires : tie.Need-plan-image-requires
-plan-image-requires c κs = testing.plannable _ (c .before .before .before .args .words .now) _ (c .before .before .before .pre) (sym (c .before .is-intact .ensures) ∙ not-false _ (c .if1 .left))
+plan-image-requires c κs = let s = c .before .before .before in testing.plannable _ (s .args .words .now) _ (s .pre) (sym (c .before .is-intact .ensures) ∙ not-false _ (c .if1 .left))
 
 returns-2 : tie.Need-returns-2
-returns-2 c = testing.image-refused _ (c .before .before .before .before .before .before .args .words .now) _ (c .before .before .before .before .before .before .pre) _ _ (c .before .before .plan-image .ensures) (c .if2 .taken)
+returns-2 c = let s = c .before .before .before .before .before .before in testing.image-refused _ (s .args .words .now) _ (s .pre) _ _ (c .before .before .plan-image .ensures) (c .if2 .taken)
 
 returns-3 : tie.Need-returns-3
 returns-3 c = search needs

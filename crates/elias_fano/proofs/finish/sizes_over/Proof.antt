@@ -18,10 +18,10 @@ no-sizes-requires : tie.Need-no-sizes-requires
 no-sizes-requires c κs = search needs
 
 returns : tie.Need-returns
-returns c = planning.is-sized (c .before .before .before .before .before .args .over-one) (c .before .before .before .before .before .args .words .now) (c .before .before .before .before .before .args .len) _ (c .before .before .before .measure .ensures) (c .before .s .given .0 .0) (c .before .s .given .1)
+returns c = let s = c .before .before .before .before .before in planning.is-sized (s .args .over-one) (s .args .words .now) (s .args .len) _ (c .before .before .before .measure .ensures) (c .before .s .given .0 .0) (c .before .s .given .1)
 
 returns-2 : tie.Need-returns-2
-returns-2 c = absurd (planning.not-refused (c .before .before .before .before .before .args .over-one) (c .before .before .before .before .before .args .words .now) (c .before .before .before .before .before .args .len) _ (c .before .before .before .measure .ensures) _ (c .before .enum-told .given .1) (c .before .before .before .before .before .pre))
+returns-2 c = let s = c .before .before .before .before .before in absurd (planning.not-refused (s .args .over-one) (s .args .words .now) (s .args .len) _ (c .before .before .before .measure .ensures) _ (c .before .enum-told .given .1) (s .pre))
 
 pub sizes-over-spec : {M : Type 1} → statement M
 sizes-over-spec =

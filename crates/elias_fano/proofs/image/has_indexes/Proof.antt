@@ -33,34 +33,34 @@ part-is-index-end : tie.Need-part-is-index-end
 part-is-index-end c = standing.zeros-end _ _ (c .before .before .pre .0) (c .before .before .pre .1)
 
 is-index-requires : tie.Need-is-index-requires
-is-index-requires c κs = standing.indexable (c .before .before .before .args .image .now) (c .before .before .before .args .p) (c .before .before .before .pre .0) (c .before .before .before .pre .1) (c .before .before .shared-slice-known .given 0 .fits) (c .before .before .before .pre .2)
+is-index-requires c κs = let s = c .before .before .before in standing.indexable (s .args .image .now) (s .args .p) (s .pre .0) (s .pre .1) (c .before .before .shared-slice-known .given 0 .fits) (s .pre .2)
 
 returns : tie.Need-returns
 unfolding partsBy
-returns c = indexing.other-ones (c .before .before .before .before .before .args .image .now) _ _ _ _ (standing.high-part (c .before .before .before .before .before .args .image .now) (c .before .before .before .before .before .args .p) (c .before .before .before .before .before .pre .0) (c .before .before .before .before .before .pre .1)) (ap (λ (q : Parts). q .«high_len») (c .before .before .before .before .before .pre .0)) (standing.ones-part (c .before .before .before .before .before .args .image .now) (c .before .before .before .before .before .args .p) (c .before .before .before .before .before .pre .0) (c .before .before .before .before .before .pre .1)) refl _ (c .before .is-index .ensures) (not-true _ (c .if1 .taken))
+returns c = let s = c .before .before .before .before .before in indexing.other-ones (s .args .image .now) _ _ _ _ (standing.high-part (s .args .image .now) (s .args .p) (s .pre .0) (s .pre .1)) (ap (λ (q : Parts). q .«high_len») (s .pre .0)) (standing.ones-part (s .args .image .now) (s .args .p) (s .pre .0) (s .pre .1)) refl _ (c .before .is-index .ensures) (not-true _ (c .if1 .taken))
 
 mul-is-index-2 : tie.Need-mul-is-index-2
-mul-is-index-2 c = let e = standing.zeros-end _ _ (c .before .before .before .before .before .before .pre .0) (c .before .before .before .before .before .before .pre .1) in record { fits = omega (arith, c .before .before .before .before .before .before .good) }
+mul-is-index-2 c = let s = c .before .before .before .before .before .before in let e = standing.zeros-end _ _ (s .pre .0) (s .pre .1) in record { fits = omega (arith, s .good) }
 
 sub-is-index-2 : tie.Need-sub-is-index-2
-sub-is-index-2 c = standing.zeros-end _ _ (c .before .before .before .before .before .before .pre .0) (c .before .before .before .before .before .before .pre .1)
+sub-is-index-2 c = let s = c .before .before .before .before .before .before in standing.zeros-end _ _ (s .pre .0) (s .pre .1)
 
 part-is-index-start-2 : tie.Need-part-is-index-start-2
-part-is-index-start-2 c = standing.zeros-end _ _ (c .before .before .before .before .before .before .pre .0) (c .before .before .before .before .before .before .pre .1)
+part-is-index-start-2 c = let s = c .before .before .before .before .before .before in standing.zeros-end _ _ (s .pre .0) (s .pre .1)
 
 part-is-index-end-2 : tie.Need-part-is-index-end-2
 part-is-index-end-2 c = search needs
 
 is-index-requires-2 : tie.Need-is-index-requires-2
-is-index-requires-2 c κs = standing.indexable (c .before .before .before .before .before .before .before .args .image .now) (c .before .before .before .before .before .before .before .args .p) (c .before .before .before .before .before .before .before .pre .0) (c .before .before .before .before .before .before .before .pre .1) (c .before .before .before .before .before .before .shared-slice-known .given 0 .fits) (c .before .before .before .before .before .before .before .pre .2)
+is-index-requires-2 c κs = let s = c .before .before .before .before .before .before .before in standing.indexable (s .args .image .now) (s .args .p) (s .pre .0) (s .pre .1) (c .before .before .before .before .before .before .shared-slice-known .given 0 .fits) (s .pre .2)
 
 returns-2 : tie.Need-returns-2
 unfolding partsBy
-returns-2 c = indexing.then-zeros (c .before .before .before .before .before .before .before .before .args .image .now) _ _ _ _ (standing.high-part (c .before .before .before .before .before .before .before .before .args .image .now) (c .before .before .before .before .before .before .before .before .args .p) (c .before .before .before .before .before .before .before .before .pre .0) (c .before .before .before .before .before .before .before .before .pre .1)) (ap (λ (q : Parts). q .«high_len») (c .before .before .before .before .before .before .before .before .pre .0)) (standing.ones-part (c .before .before .before .before .before .before .before .before .args .image .now) (c .before .before .before .before .before .before .before .before .args .p) (c .before .before .before .before .before .before .before .before .pre .0) (c .before .before .before .before .before .before .before .before .pre .1)) (standing.zeros-part (c .before .before .before .before .before .before .before .before .args .image .now) (c .before .before .before .before .before .before .before .before .args .p) (c .before .before .before .before .before .before .before .before .pre .0) (c .before .before .before .before .before .before .before .before .pre .1)) _ _ (c .before .before .before .before .is-index .ensures) (not-false _ (c .before .before .before .if1 .left)) (sym (ap (λ (q : Parts). q .rank) (c .before .before .before .before .before .before .before .before .pre .0)) ∙ c .before .before .if2 .taken) (c .is-index2 .ensures)
+returns-2 c = let s = c .before .before .before .before .before .before .before .before in indexing.then-zeros (s .args .image .now) _ _ _ _ (standing.high-part (s .args .image .now) (s .args .p) (s .pre .0) (s .pre .1)) (ap (λ (q : Parts). q .«high_len») (s .pre .0)) (standing.ones-part (s .args .image .now) (s .args .p) (s .pre .0) (s .pre .1)) (standing.zeros-part (s .args .image .now) (s .args .p) (s .pre .0) (s .pre .1)) _ _ (c .before .before .before .before .is-index .ensures) (not-false _ (c .before .before .before .if1 .left)) (sym (ap (λ (q : Parts). q .rank) (s .pre .0)) ∙ c .before .before .if2 .taken) (c .is-index2 .ensures)
 
 returns-3 : tie.Need-returns-3
 unfolding partsBy
-returns-3 c = indexing.no-second (c .before .before .before .before .before .before .args .image .now) _ _ _ _ (standing.high-part (c .before .before .before .before .before .before .args .image .now) (c .before .before .before .before .before .before .args .p) (c .before .before .before .before .before .before .pre .0) (c .before .before .before .before .before .before .pre .1)) (ap (λ (q : Parts). q .«high_len») (c .before .before .before .before .before .before .pre .0)) (standing.ones-part (c .before .before .before .before .before .before .args .image .now) (c .before .before .before .before .before .before .args .p) (c .before .before .before .before .before .before .pre .0) (c .before .before .before .before .before .before .pre .1)) refl _ (c .before .before .is-index .ensures) (not-false _ (c .before .if1 .left)) (sym (ap (λ (q : Parts). q .rank) (c .before .before .before .before .before .before .pre .0)) ∙ c .if2 .left) (standing.no-zeros (c .before .before .before .before .before .before .args .image .now) (c .before .before .before .before .before .before .args .p) (c .before .before .before .before .before .before .pre .0) (c .before .before .before .before .before .before .pre .1) (sym (ap (λ (q : Parts). q .rank) (c .before .before .before .before .before .before .pre .0)) ∙ c .if2 .left))
+returns-3 c = let s = c .before .before .before .before .before .before in indexing.no-second (s .args .image .now) _ _ _ _ (standing.high-part (s .args .image .now) (s .args .p) (s .pre .0) (s .pre .1)) (ap (λ (q : Parts). q .«high_len») (s .pre .0)) (standing.ones-part (s .args .image .now) (s .args .p) (s .pre .0) (s .pre .1)) refl _ (c .before .before .is-index .ensures) (not-false _ (c .before .if1 .left)) (sym (ap (λ (q : Parts). q .rank) (s .pre .0)) ∙ c .if2 .left) (standing.no-zeros (s .args .image .now) (s .args .p) (s .pre .0) (s .pre .1) (sym (ap (λ (q : Parts). q .rank) (s .pre .0)) ∙ c .if2 .left))
 
 pub has-indexes-spec : {M : Type 1} → statement M
 has-indexes-spec =

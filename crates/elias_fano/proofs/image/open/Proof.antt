@@ -19,24 +19,25 @@ enum-told : tie.Need-enum-told
 enum-told c = search needs
 
 returns : tie.Need-returns
-returns c = answers.open-refused (c .before .before .before .before .args .image .now) (answers.heads-wrong (c .before .before .before .before .args .image .now) _ (c .before .before .read-header .ensures) (c .enum-told .given .1))
+returns c = let s = c .before .before .before .before in answers.open-refused (s .args .image .now) (answers.heads-wrong (s .args .image .now) _ (c .before .before .read-header .ensures) (c .enum-told .given .1))
 
 holds-values-requires : tie.Need-holds-values-requires
 holds-values-requires c κs = answers.heads-parts (c .before .before .before .before .before .args .image .now) _ _ (c .before .before .before .read-header .ensures) (c .before .p .given .1)
 
 returns-2 : tie.Need-returns-2
-returns-2 c = answers.open-refused (c .before .before .before .before .before .before .before .args .image .now) (λ a. true-false (sym (found (c .before .before .before .before .before .before .before .args .image .now) a .bits) ∙ sym (c .before .holds-values .ensures) ∙ not-true _ (c .if1 .taken)))
+returns-2 c = let s = c .before .before .before .before .before .before .before in answers.open-refused (s .args .image .now) (λ a. true-false (sym (found (s .args .image .now) a .bits) ∙ sym (c .before .holds-values .ensures) ∙ not-true _ (c .if1 .taken)))
 
 has-indexes-requires : tie.Need-has-indexes-requires
 has-indexes-requires c κs = let h = answers.heads-parts (c .before .before .before .before .before .before .before .args .image .now) _ _ (c .before .before .before .before .before .read-header .ensures) (c .before .before .before .p .given .1) in (h .0, h .1, sym (c .before .holds-values .ensures) ∙ not-false _ (c .if1 .left))
 
 returns-3 : tie.Need-returns-3
-returns-3 c = answers.open-refused (c .before .before .before .before .before .before .before .before .before .args .image .now) (λ a. c .before .has-indexes .ensures .no (not-true _ (c .if2 .taken)) (found (c .before .before .before .before .before .before .before .before .before .args .image .now) a .indexed))
+returns-3 c = let s = c .before .before .before .before .before .before .before .before .before in answers.open-refused (s .args .image .now) (λ a. c .before .has-indexes .ensures .no (not-true _ (c .if2 .taken)) (found (s .args .image .now) a .indexed))
 
 returns-4 : tie.Need-returns-4
 returns-4 c =
-    let h = answers.heads-parts (c .before .before .before .before .before .before .before .before .before .args .image .now) _ _ (c .before .before .before .before .before .before .before .read-header .ensures) (c .before .before .before .before .before .p .given .1) in
-    answers.open-image (c .before .before .before .before .before .before .before .before .before .args .image .now) _ (h .0) (accepts (c .before .before .before .before .before .before .before .before .before .args .image .now) (h .1) (sym (c .before .before .before .holds-values .ensures) ∙ not-false _ (c .before .before .if1 .left)) (c .before .has-indexes .ensures .yes (not-false _ (c .if2 .left))) (λ j. c .before .before .before .before .before .before .before .before .shared-slice-known .given j .fits))
+    let s = c .before .before .before .before .before .before .before .before .before in
+    let h = answers.heads-parts (s .args .image .now) _ _ (c .before .before .before .before .before .before .before .read-header .ensures) (c .before .before .before .before .before .p .given .1) in
+    answers.open-image (s .args .image .now) _ (h .0) (accepts (s .args .image .now) (h .1) (sym (c .before .before .before .holds-values .ensures) ∙ not-false _ (c .before .before .if1 .left)) (c .before .has-indexes .ensures .yes (not-false _ (c .if2 .left))) (λ j. c .before .before .before .before .before .before .before .before .shared-slice-known .given j .fits))
 
 pub open-spec : {M : Type 1} → statement M
 open-spec =

@@ -15,7 +15,7 @@ index-len-requires : tie.Need-index-len-requires
 index-len-requires c κs = search needs
 
 returns : tie.Need-returns
-returns c = c .index-len .ensures ∙ ap (λ (b : Bool). cond b (indexLen (c .before .before .before .args .p .«high_len» - c .before .before .before .args .p .«num_pushed») (c .before .before .before .args .overflow)) 0) (sym (c .before .before .if1 .taken))
+returns c = let s = c .before .before .before in c .index-len .ensures ∙ ap (λ (b : Bool). cond b (indexLen (s .args .p .«high_len» - s .args .p .«num_pushed») (s .args .overflow)) 0) (sym (c .before .before .if1 .taken))
 
 returns-2 : tie.Need-returns-2
 returns-2 c = ap (λ (b : Bool). cond b (indexLen (c .before .args .p .«high_len» - c .before .args .p .«num_pushed») (c .before .args .overflow)) 0) (sym (c .if1 .left))

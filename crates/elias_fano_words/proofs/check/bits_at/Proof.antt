@@ -38,7 +38,7 @@ shl-result : tie.Need-shl-result
 shl-result c = search needs
 
 returns : tie.Need-returns
-returns c = reading.bits-from (c .before .before .before .before .args .words .now) (λ i. c .before .before .shared-slice-known .given i .fits) (c .before .before .before .before .args .pos) (c .before .before .before .if1 .next) (λ h. ⊎-elim (λ w. omega arith) (λ w. omega arith) (c .before .before .before .if1 .came))
+returns c = let s = c .before .before .before .before in reading.bits-from (s .args .words .now) (λ i. c .before .before .shared-slice-known .given i .fits) (s .args .pos) (c .before .before .before .if1 .next) (λ h. ⊎-elim (λ w. omega arith) (λ w. omega arith) (c .before .before .before .if1 .came))
 
 pub bits-at-spec : {M : Type 1} → statement M
 bits-at-spec =

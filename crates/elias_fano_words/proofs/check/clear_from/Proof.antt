@@ -11,13 +11,13 @@ last-used-requires : tie.Need-last-used-requires
 last-used-requires c κs = search needs
 
 returns : tie.Need-returns
-returns c = it-is (unset.clear-past (c .before .before .before .args .words .now) (λ i. c .before .before .shared-slice-known .given i .fits) (c .before .before .before .args .pos) (c .before .last-used .result) (c .before .last-used .ensures) (c .if1 .taken))
+returns c = let s = c .before .before .before in it-is (unset.clear-past (s .args .words .now) (λ i. c .before .before .shared-slice-known .given i .fits) (s .args .pos) (c .before .last-used .result) (c .before .last-used .ensures) (c .if1 .taken))
 
 add-if2 : tie.Need-add-if2
 add-if2 c = search needs
 
 returns-2 : tie.Need-returns-2
-returns-2 c = it-is-not (unset.not-clear (c .before .before .before .before .args .words .now) (λ i. c .before .before .before .shared-slice-known .given i .fits) (c .before .before .before .before .args .pos) (c .before .before .last-used .result) (c .before .before .last-used .ensures) (omega arith))
+returns-2 c = let s = c .before .before .before .before in it-is-not (unset.not-clear (s .args .words .now) (λ i. c .before .before .before .shared-slice-known .given i .fits) (s .args .pos) (c .before .before .last-used .result) (c .before .before .last-used .ensures) (omega arith))
 
 mul-result : tie.Need-mul-result
 mul-result c = search needs
@@ -29,7 +29,7 @@ shr-result : tie.Need-shr-result
 shr-result c = search needs
 
 returns-3 : tie.Need-returns-3
-returns-3 c = unset.clear-part (c .before .before .before .before .before .args .words .now) (λ i. c .before .before .before .before .shared-slice-known .given i .fits) (c .before .before .before .before .before .args .pos) (c .before .before .before .last-used .result) (c .before .before .before .last-used .ensures) (c .before .if2 .left)
+returns-3 c = let s = c .before .before .before .before .before in unset.clear-part (s .args .words .now) (λ i. c .before .before .before .before .shared-slice-known .given i .fits) (s .args .pos) (c .before .before .before .last-used .result) (c .before .before .before .last-used .ensures) (c .before .if2 .left)
 
 pub clear-from-spec : {M : Type 1} → statement M
 clear-from-spec =

@@ -17,7 +17,7 @@ mul-msb : tie.Need-mul-msb
 mul-msb c = search needs
 
 shared-slice-read-msb : tie.Need-shared-slice-read-msb
-shared-slice-read-msb c = omega (arith, last-time.used-pos (c .before .before .before .args .words .now) (λ i. c .before .before .shared-slice-known .given i .fits) (c .before .before .before .pre .0) (c .before .last-used .result) (c .before .last-used .ensures), c .before .last-used .ensures .upto)
+shared-slice-read-msb c = let s = c .before .before .before in omega (arith, last-time.used-pos (s .args .words .now) (λ i. c .before .before .shared-slice-known .given i .fits) (s .pre .0) (c .before .last-used .result) (c .before .last-used .ensures), c .before .last-used .ensures .upto)
 
 msb-requires : tie.Need-msb-requires
 msb-requires c κs = search needs
@@ -37,10 +37,10 @@ enum-told : tie.Need-enum-told
 enum-told c = search needs
 
 returns : tie.Need-returns
-returns c = last-time.last-in (c .before .before .before .before .before .before .before .args .words .now) (λ i. c .before .before .before .before .before .before .shared-slice-known .given i .fits) (c .before .before .before .before .before .before .before .pre .0) (c .before .before .before .before .before .last-used .result) (c .before .before .before .before .before .last-used .ensures) (c .before .bit .given .0 .0) (sym (c .before .bit .given .1) ∙ c .before .before .before .msb .ensures)
+returns c = let s = c .before .before .before .before .before .before .before in last-time.last-in (s .args .words .now) (λ i. c .before .before .before .before .before .before .shared-slice-known .given i .fits) (s .pre .0) (c .before .before .before .before .before .last-used .result) (c .before .before .before .before .before .last-used .ensures) (c .before .bit .given .0 .0) (sym (c .before .bit .given .1) ∙ c .before .before .before .msb .ensures)
 
 returns-2 : tie.Need-returns-2
-returns-2 c = absurd (last-time.last-some (c .before .before .before .before .before .before .args .words .now) (λ i. c .before .before .before .before .before .shared-slice-known .given i .fits) (c .before .before .before .before .before .before .pre .0) (c .before .before .before .before .last-used .result) (c .before .before .before .before .last-used .ensures) (sym (c .enum-told .given .1) ∙ c .before .before .msb .ensures))
+returns-2 c = let s = c .before .before .before .before .before .before in absurd (last-time.last-some (s .args .words .now) (λ i. c .before .before .before .before .before .shared-slice-known .given i .fits) (s .pre .0) (c .before .before .before .before .last-used .result) (c .before .before .before .before .last-used .ensures) (sym (c .enum-told .given .1) ∙ c .before .before .msb .ensures))
 
 pub last-one-spec : {M : Type 1} → statement M
 last-one-spec =

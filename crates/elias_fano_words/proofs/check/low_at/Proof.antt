@@ -22,7 +22,7 @@ shl-result : tie.Need-shl-result
 shl-result c = search needs
 
 sub-result : tie.Need-sub-result
-sub-result c = reading.mask-fits (c .before .before .before .args .l) (c .before .before .before .pre .0)
+sub-result c = let s = c .before .before .before in reading.mask-fits (s .args .l) (s .pre .0)
 
 returns-2 : tie.Need-returns-2
 returns-2 c =

@@ -46,7 +46,7 @@ add-rises c =
     let h = held c in omega (arith, marks.held-fits (s .args .l) (s .args .low .now) (s .args .before + c .popcount .result + 2) (s .pre .0) h)
 
 rises-requires : tie.Need-rises-requires Inv-loop μ-loop
-rises-requires c κs = (c .before .before .before .before .pre .0, c .before .before .before .before .pre .1, held c)
+rises-requires c κs = let s = c .before .before .before .before in (s .pre .0, s .pre .1, held c)
 
 returns : tie.Need-returns Inv-loop μ-loop
 returns c =

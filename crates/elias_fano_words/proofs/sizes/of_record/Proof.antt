@@ -44,8 +44,9 @@ add-t12 c =
 returns : tie.Need-returns
 unfolding highLen startLen
 returns c =
-    let u : ℕ = c .before .before .before .args .universe in
-    let n : ℕ = c .before .before .before .args .num-vals in
+    let s = c .before .before .before in
+    let u : ℕ = s .args .universe in
+    let n : ℕ = s .args .num-vals in
     let l : ℕ = c .before .before .low-len .result in
     ap₂ (λ (a b : ℕ). record { «low_len» = l; «high_len» = n + 2 + u / 2 ^ l; «start_len» = 6 + a + b }) (c .before .words-for .ensures) (c .words-for2 .ensures)
     ∙ ap (λ (l : ℕ). record { «low_len» = l; «high_len» = n + 2 + u / 2 ^ l; «start_len» = 6 + wordsFor (n + 2 + u / 2 ^ l) + wordsFor (n * l) }) (c .before .before .low-len .ensures)
