@@ -1,8 +1,9 @@
 #!/usr/bin/env python3
 """Makes the console's test vectors for words, bits and the record, and compares them with the Rust.
 
-    vectors.py [--oracle PATH] [--seed N] [--stdin PATH] [--stdout PATH]   writes both files
-    vectors.py --check [--seed N] [--random N] [--exhaustive]              compares only
+    vectors.py [--oracle PATH] [--stdin PATH] [--stdout PATH]    writes both files
+    vectors.py --check                                           writes nothing, and fails if they would change
+    vectors.py --exhaustive [--seed N] [--random N]              compares model and Rust only
 
 Every line is answered by the model (model.py). Every line in form is also answered by the oracle. Both agree, or the line
 falls into exactly one of the named differences; anything else is an error. A table counts the differences.
@@ -1022,8 +1023,8 @@ def main():
     options.add_argument("--random", default=850, type=int, help="about how many random lines")
     options.add_argument("--stdin", default=root / "stdin", type=pathlib.Path)
     options.add_argument("--stdout", default=root / "stdout", type=pathlib.Path)
-    options.add_argument("--check", action="store_true", help="write nothing")
-    options.add_argument("--exhaustive", action="store_true", help="compare all short inputs too, write nothing")
+    options.add_argument("--check", action="store_true", help="write nothing, and fail if the files would change")
+    options.add_argument("--exhaustive", action="store_true", help="compare all short inputs with the Rust too, and look at no file")
     args = options.parse_args()
 
     oracle = args.oracle.resolve()
@@ -1040,10 +1041,13 @@ def main():
         bits = together(bits, compare(oracle, exhaustive())[1:])
         record = together(record, records.compare(oracle, records.exhaustive()))
     written = [a for a in answers if a is not None]
-    if not args.check and not args.exhaustive:
+    if not args.exhaustive:
         for path, text in ((args.stdin, b"\n".join(lines)), (args.stdout, "".join(a + "\n" for a in written).encode())):
-            path.parent.mkdir(parents=True, exist_ok=True)
-            path.write_bytes(text)
+            if not args.check:
+                path.parent.mkdir(parents=True, exist_ok=True)
+                path.write_bytes(text)
+            elif not path.exists() or path.read_bytes() != text:
+                sys.exit(f"{path} is not what this script writes")
 
     print(f"{len(lines)} lines, {len(written)} answers, {written.count('bad command')} of them bad commands")
     for differences, (seen, agreed, asked) in ((DIFFERENCES, bits), (records.DIFFERENCES, record)):
