@@ -1,21 +1,26 @@
 /* A monotone sequence (Elias-Fano) in words that the caller lends: write a record, finish it, read it.
  *
- * Link with target/staticlib/libffi.a (`rt staticlib ffi` writes it; x86-64, no other library is needed).
+ * Link with target/staticlib/libffi.a (`rt staticlib ffi` writes it; x86-64). It needs memcpy and memset of the C library and, as
+ * measured, some 20 KB of stack.
  *
  * Words. A word is 64 bits. Every buffer belongs to the caller: no function keeps a pointer, allocates or frees. A call reads and
  * writes only the `len` words from the pointer on, and only while it runs. A pointer must be aligned to 8 bytes; with `len` 0 it is not
  * read. Two calls may run at once where neither writes words that the other uses.
  *
- * Refusals. A refused call alters no word, and its struct says why, by number:
- *    1  ef_new: num_vals is 0
- *    2  ef_new: num_vals is over 16,777,216
- *    3  the buffer is too short: ef_new, ef_push below the size that ef_new zeroes, ef_build also below the image's length
- *    4  ef_push: the value is below the last one
- *    5  ef_push: the value is not below the universe
- *    6  ef_push: num_vals values were pushed
- *    7  no run leaves such a builder (ef_push, ef_build), such words (ef_build) or such an image (ef_open, ef_select)
- * They are tested in this order: ef_new 1, 2, 3; ef_push 7, 3, 4, 5, 6; ef_build 7 by the builder's numbers, 3 by the size that ef_new
- * zeroes, 7 by the words, 3 by the image's length.
+ * How long a buffer must be, in words. u is the universe, n num_vals, m num_pushed; / rounds down, ceil rounds up.
+ *    l        = the place of the highest one of u / n, 0 if u / n is 0
+ *    H        = n + 2 + u / 2^l                                 (at most 3 * n + 1)
+ *    start    = 6 + ceil(H / 64) + ceil(n * l / 64)             what ef_new zeroes; a shorter buffer is refused with 3
+ *    index(P) = ceil(P / 1024) + ceil(ceil(P / 32) / 4) + its overflow words, which depend on the values: 1024 * (H / 65537) at most
+ *    image    = 6 + ceil(H / 64) + ceil(m * l / 64) + index(m), and with rank + index(H - m)
+ * So start + index(n), with rank + index(H), each with 1024 * (H / 65537) overflow words, is enough for every record of u and n: 50,000
+ * values below 157,680,000 (five years of seconds) need 10,585 words to start and at most 14,191 for the image with rank. example.c
+ * has these sizes as functions.
+ *
+ * The image. Words 0 to 5 are the universe, num_vals, the number of values, 1 with rank or else 0, the overflow words of the index
+ * over ones, and those of the index over zeros; then the high words, the low words and the indexes. It is numbers, and the same ones on every
+ * machine: a file needs one order of bytes that writer and reader keep, as 8 bytes a word, little end first. ef_open tells whether
+ * what was read back is an image.
  */
 #ifndef ELIAS_FANO_H
 #define ELIAS_FANO_H
@@ -28,7 +33,19 @@
 extern "C" {
 #endif
 
-/* How far a record is written: 32 bytes. It may be copied and stored; one that no run leaves is refused with 7. */
+/* Refusals. A refused call alters no word, and says why; 0 is no refusal. They are tested in this order: ef_new 1, 2, 3; ef_push 7, 3, 4,
+ * 5, 6; ef_build 7 by the builder's numbers, 3 by the size of the start, 7 by the words, 3 by the image's length. */
+enum {
+    EF_NO_VALUES = 1,       /* ef_new: num_vals is 0 */
+    EF_TOO_MANY = 2,        /* ef_new: num_vals is over 16,777,216 */
+    EF_SHORT_BUFFER = 3,    /* ef_new, ef_push, ef_build: below the size of the start; ef_build also below the image's length */
+    EF_DECREASING = 4,      /* ef_push: the value is below the last one */
+    EF_OUT_OF_UNIVERSE = 5, /* ef_push: the value is not below the universe */
+    EF_FULL = 6,            /* ef_push: num_vals values were pushed */
+    EF_INVALID = 7          /* no run leaves such a builder (ef_push, ef_build), such words (ef_build) or such an image (ef_open, ef_select) */
+};
+
+/* How far a record is written: 32 bytes. It may be copied and stored; one that no run leaves, as all zeros, is refused with 7. */
 typedef struct {
     uint64_t universe;   /* every value is below it */
     uint64_t num_vals;   /* how many values may be pushed, 1 to 16,777,216 */
@@ -36,7 +53,7 @@ typedef struct {
     uint64_t last;       /* the last of them, 0 while there is none */
 } EfBuilder;
 
-/* 40 bytes: 0 or the refusal's number, and the builder to go on with: a refused ef_push hands its own back, a refused ef_new all zeros. */
+/* 40 bytes: 0 or the refusal, and the builder to go on with: a refused ef_push hands its own back, a refused ef_new all zeros. */
 typedef struct {
     uint64_t refusal;
     EfBuilder builder;
@@ -47,18 +64,21 @@ enum { EF_VALUE = 0, EF_NONE = 1, EF_REFUSED = 2 };
 
 typedef struct {
     uint64_t kind;  /* EF_VALUE, EF_NONE or EF_REFUSED */
-    uint64_t value; /* the value, 0, or the refusal's number */
+    uint64_t value; /* the value, 0, or the refusal */
 } EfAnswer;
 
-/* Begins a record. Zeroes the words that it needs until the image is made (6, the high words and the low words of num_vals values) and
- * leaves the later ones. Constant time and one pass over those words. */
+/* Begins a record. Zeroes the words of the start and leaves the later ones. Constant time and one pass over those words. */
 EfPushed ef_new(uint64_t universe, uint64_t num_vals, uint64_t *buffer, size_t len);
 
-/* Files one value more, which must not be below the last. Constant time. The buffer is the one that ef_new zeroed. */
+/* Files one value more, which must not be below the last. Constant time. The buffer is the one that ef_new zeroed, or a copy of it. */
 EfPushed ef_push(EfBuilder builder, uint64_t value, uint64_t *buffer, size_t len);
 
 /* Makes an image of the words, with the index that rank needs or without it. The answer is the image's length: it stands in the first
- * words of the buffer, and the later ones stay. The image may be copied and stored: its words are the same for equal settings and values. */
+ * words of the buffer, and the later ones stay. The image may be copied and stored: its words are the same for equal settings and values.
+ *
+ * Refused with 3, the words are as they were: copy them into a longer buffer and build there with the same builder.
+ * Accepted, the builder is done: set it to zeros, or lose it. A push by the old one into these words is not refused, and what it leaves is
+ * no image (ef_open says 7). To read a record that goes on, build it in a copy of the words of the start. */
 EfAnswer ef_build(EfBuilder builder, bool rank, uint64_t *buffer, size_t len);
 
 /* 0 if the words are an image that some run writes, else 7. `len` is the image's length, no more and no less. Linear time. */

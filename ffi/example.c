@@ -1,8 +1,10 @@
-/* A record of burner starts in C: written, finished, read, and refused once for each reason. `ffi/run` builds and runs it. */
+/* A record of burner starts in C: written, finished, read, refused once for each reason, and how long its buffers must be. `ffi/run`
+ * builds and runs it. */
 #include "elias_fano.h"
 #include <inttypes.h>
 #include <stdio.h>
 #include <stdlib.h>
+#include <string.h>
 
 static void must(bool ok, const char *what) {
     if (!ok) {
@@ -11,53 +13,154 @@ static void must(bool ok, const char *what) {
     }
 }
 
-static bool same(const uint64_t *words, const uint64_t *others, size_t len) {
-    for (size_t i = 0; i < len; i++) {
-        if (words[i] != others[i]) {
-            return false;
-        }
+/* ---- the sizes of the header */
+
+static uint64_t up(uint64_t a, uint64_t b) { return a / b + (a % b != 0); }
+
+static uint64_t low_len(uint64_t u, uint64_t n) {
+    uint64_t l = 0;
+    for (uint64_t q = u / n; q > 1; q /= 2) {
+        l++;
     }
-    return true;
+    return l;
 }
 
-int main(void) {
+static uint64_t high_len(uint64_t u, uint64_t n) { return n + 2 + (u >> low_len(u, n)); }
+
+/* What ef_new zeroes. */
+static uint64_t start_words(uint64_t u, uint64_t n) { return 6 + up(high_len(u, n), 64) + up(n * low_len(u, n), 64); }
+
+static uint64_t index_words(uint64_t positions, uint64_t overflow) { return up(positions, 1024) + up(up(positions, 32), 4) + overflow; }
+
+/* The length of an image, from its first six words. */
+static uint64_t image_words(const uint64_t *w) {
+    uint64_t u = w[0], n = w[1], m = w[2], high = high_len(u, n);
+    uint64_t bits = 6 + up(high, 64) + up(m * low_len(u, n), 64);
+    return bits + index_words(m, w[4]) + (w[3] == 1 ? index_words(high - m, w[5]) : 0);
+}
+
+/* Enough for every record of u and n. */
+static uint64_t enough_words(uint64_t u, uint64_t n, bool rank) {
+    uint64_t high = high_len(u, n), overflow = 1024 * (high / 65537);
+    return start_words(u, n) + index_words(n, overflow) + (rank ? index_words(high, overflow) : 0);
+}
+
+/* ---- the safe way: once an image is made its builder is all zeros, which every call refuses, so no push can reach the image */
+
+static EfAnswer finish(EfBuilder *builder, bool rank, uint64_t *buffer, size_t len) {
+    EfAnswer built = ef_build(*builder, rank, buffer, len);
+    if (built.kind == EF_VALUE) {
+        memset(builder, 0, sizeof *builder);
+    }
+    return built;
+}
+
+static uint64_t *words(uint64_t len) {
+    uint64_t *w = calloc(len, sizeof *w);
+    must(w != NULL, "memory");
+    return w;
+}
+
+/* m values with the same gap: each size is accepted, and a word less refused. */
+static void sizes(uint64_t u, uint64_t n, uint64_t m, uint64_t gap, bool rank) {
+    uint64_t start = start_words(u, n), enough = enough_words(u, n, rank);
+    uint64_t *buffer = words(enough), *copy = words(enough);
+    must(ef_new(u, n, buffer, start - 1).refusal == EF_SHORT_BUFFER, "a word less than a start needs");
+    EfPushed p = ef_new(u, n, buffer, start);
+    must(p.refusal == 0, "a start of its size");
+    for (uint64_t k = 0; k < m; k++) {
+        p = ef_push(p.builder, k * gap, buffer, start);
+        must(p.refusal == 0, "a push in the start's size");
+    }
+    memcpy(copy, buffer, start * sizeof *buffer);
+    EfAnswer built = ef_build(p.builder, rank, copy, enough);
+    must(built.kind == EF_VALUE && built.value == image_words(copy), "the image's length");
+    uint64_t least = built.value < start ? start : built.value;
+    memcpy(copy, buffer, start * sizeof *buffer);
+    EfAnswer refused = ef_build(p.builder, rank, copy, least - 1);
+    must(refused.kind == EF_REFUSED && refused.value == EF_SHORT_BUFFER, "a word less than a build needs");
+    must(ef_build(p.builder, rank, copy, least).kind == EF_VALUE, "a build of its size");
+    printf("u %" PRIu64 ", n %" PRIu64 ", %" PRIu64 " values: start %" PRIu64 " words, image %" PRIu64 ", enough %" PRIu64 "\n", u, n, m, start,
+           built.value, enough);
+    free(buffer);
+    free(copy);
+}
+
+static void record(void) {
     static const uint64_t times[] = {3, 4, 4, 13};
     static const uint64_t expected[] = {20, 4, 4, 1, 0, 0, 77, 67, 0, 0, 1, 0};
-    uint64_t buffer[16];
-    for (size_t i = 0; i < 16; i++) {
-        buffer[i] = 5;
-    }
+    uint64_t buffer[8]; /* a start of u 20, n 4 */
+    must(start_words(20, 4) == 8, "the start's size");
+    must(ef_new(20, 0, buffer, 8).refusal == EF_NO_VALUES, "no values");
+    must(ef_new(20, 16777217, buffer, 8).refusal == EF_TOO_MANY, "too many values");
+    must(ef_new(20, 4, buffer, 7).refusal == EF_SHORT_BUFFER, "a short buffer");
 
-    must(ef_new(20, 0, buffer, 16).refusal == 1, "no values");
-    must(ef_new(20, 16777217, buffer, 16).refusal == 2, "too many values");
-    must(ef_new(20, 4, buffer, 7).refusal == 3, "a short buffer");
-
-    EfPushed p = ef_new(20, 4, buffer, 16);
+    EfPushed p = ef_new(20, 4, buffer, 8);
     must(p.refusal == 0, "a new record");
     for (size_t i = 0; i < 4; i++) {
-        p = ef_push(p.builder, times[i], buffer, 16);
+        p = ef_push(p.builder, times[i], buffer, 8);
         must(p.refusal == 0, "a push");
     }
-    must(ef_push(p.builder, 3, buffer, 16).refusal == 4, "a value below the last");
-    must(ef_push(p.builder, 20, buffer, 16).refusal == 5, "a value past the universe");
-    must(ef_push(p.builder, 13, buffer, 16).refusal == 6, "a value too many");
-    EfBuilder forged = p.builder;
+    EfBuilder builder = p.builder;
+    must(ef_push(builder, 3, buffer, 8).refusal == EF_DECREASING, "a value below the last");
+    must(ef_push(builder, 20, buffer, 8).refusal == EF_OUT_OF_UNIVERSE, "a value past the universe");
+    must(ef_push(builder, 13, buffer, 8).refusal == EF_FULL, "a value too many");
+    EfBuilder forged = builder;
     forged.last = 12;
-    must(ef_build(forged, true, buffer, 16).value == 7, "another last value");
+    must(ef_build(forged, true, buffer, 8).value == EF_INVALID, "another last value");
 
-    EfAnswer built = ef_build(p.builder, true, buffer, 16);
+    /* The image with rank is longer than the start: refused, and tried again in a longer copy. */
+    EfAnswer built = finish(&builder, true, buffer, 8);
+    must(built.kind == EF_REFUSED && built.value == EF_SHORT_BUFFER, "no room for the image");
+    uint64_t longer[16];
+    for (size_t i = 0; i < 16; i++) {
+        longer[i] = i < 8 ? buffer[i] : 5;
+    }
+    built = finish(&builder, true, longer, 16);
     must(built.kind == EF_VALUE && built.value == 12, "the image's length");
-    must(same(buffer, expected, 12) && buffer[12] == 5, "the image's words, and the one after them");
+    must(memcmp(longer, expected, sizeof expected) == 0 && longer[12] == 5, "the image's words, and the one after them");
+    must(ef_push(builder, 13, longer, 16).refusal == EF_INVALID, "a push after the build");
+    must(ef_build(builder, true, longer, 16).value == EF_INVALID, "a build after the build");
 
-    must(ef_open(buffer, 12) == 0 && ef_open(buffer, 13) == 7 && ef_open(buffer, 0) == 7, "opening");
+    must(ef_open(longer, 12) == 0 && ef_open(longer, 13) == EF_INVALID && ef_open(longer, 0) == EF_INVALID, "opening");
     for (size_t k = 0; k < 4; k++) {
-        EfAnswer t = ef_select(buffer, 12, k);
+        EfAnswer t = ef_select(longer, 12, k);
         must(t.kind == EF_VALUE && t.value == times[k], "select");
         printf("select(%zu) = %" PRIu64 "\n", k, t.value);
     }
-    must(ef_select(buffer, 12, 4).kind == EF_NONE, "none after the last");
-    buffer[6] ^= 1;
-    must(ef_select(buffer, 12, 0).kind == EF_REFUSED && ef_select(buffer, 12, 0).value == 7, "a changed image");
+    must(ef_select(longer, 12, 4).kind == EF_NONE, "none after the last");
+    longer[6] ^= 1;
+    must(ef_select(longer, 12, 0).kind == EF_REFUSED && ef_select(longer, 12, 0).value == EF_INVALID, "a changed image");
+}
+
+/* A record is read while it goes on: an image is made in a copy. Without the copy, the next push spoils the image. */
+static void going_on(void) {
+    uint64_t buffer[16] = {0}, copy[16];
+    EfPushed p = ef_new(20, 4, buffer, 16);
+    p = ef_push(p.builder, 3, buffer, 16);
+    memcpy(copy, buffer, sizeof copy);
+    EfBuilder of_copy = p.builder;
+    EfAnswer built = finish(&of_copy, false, copy, 16);
+    must(built.kind == EF_VALUE && ef_select(copy, built.value, 0).value == 3, "an image of one value");
+    p = ef_push(p.builder, 4, buffer, 16);
+    must(p.refusal == 0 && ef_open(copy, built.value) == 0, "a push after it");
+
+    built = ef_build(p.builder, false, buffer, 16);
+    must(built.kind == EF_VALUE && ef_open(buffer, built.value) == 0, "an image of two values");
+    p = ef_push(p.builder, 13, buffer, 16);
+    must(p.refusal == 0 && ef_open(buffer, built.value) == EF_INVALID, "a push into an image, which is none any more");
+}
+
+int main(void) {
+    record();
+    going_on();
+    sizes(20, 4, 4, 3, true);
+    sizes(0, 1, 0, 0, true);
+    sizes(UINT64_MAX, 1, 1, 0, true);
+    sizes(16777216, 16777216, 1, 0, true);
+    sizes(131072, 65536, 2, 131071, true);
+    sizes(157680000, 50000, 50000, 3153, true);
+    sizes(157680000, 50000, 49, 3153000, false);
     puts("C: all as expected");
     return 0;
 }
