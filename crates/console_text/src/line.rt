@@ -1,6 +1,9 @@
 // A line as words with one space between them, and its numbers.
-ghost use Prim.Native.Nat.{_≤_};
-ghost use lib.ListN.{length};
+ghost use mathlib.Core.Path.{_≡_};
+ghost use Prim.Native.Nat.{_+_, _≤_};
+ghost use lib.ListN.{length, take, drop};
+ghost use Rattle.decimal.specs.Decimal.{parseOf};
+ghost use Rattle.console_text.specs.Line.{before, words, same, placeIn, fields, noNumbers, ifAt, numbersFrom, orZero, putAt, storedFrom};
 use decimal::Parsed;
 
 // The words after a command as numbers: whether all of them are, how many, and the first four.
@@ -18,6 +21,7 @@ pub fn find(text: &[u8], from: usize, b: u8) -> usize
     requires { ⌜ from ≤ length (now text) ⌝ }
     ensures { λ r. ⌜ from ≤ r ⌝ }
     ensures { λ r. ⌜ r ≤ length (now (text .entry)) ⌝ }
+    ensures { λ r. ⌜ r ≡ from + before b (drop from (now (text .entry))) ⌝ }
 {
     let mut i = from;
     while i < text.len() {
@@ -34,11 +38,14 @@ pub fn word_end(line: &[u8], from: usize) -> usize
     requires { ⌜ from ≤ length (now line) ⌝ }
     ensures { λ r. ⌜ from ≤ r ⌝ }
     ensures { λ r. ⌜ r ≤ length (now (line .entry)) ⌝ }
+    ensures { λ r. ⌜ r ≡ from + before 32 (drop from (now (line .entry))) ⌝ }
 {
     find(line, from, b' ')
 }
 
-fn same(a: &[u8], b: &[u8]) -> bool {
+fn same(a: &[u8], b: &[u8]) -> bool
+    ensures { λ r. ⌜ r ≡ same (now (a .entry)) (now (b .entry)) ⌝ }
+{
     if a.len() != b.len() {
         return false;
     }
@@ -53,7 +60,9 @@ fn same(a: &[u8], b: &[u8]) -> bool {
 }
 
 // Which word of the list the name is, counted from 0, or how many words the list has.
-pub fn place_in(list: &[u8], name: &[u8]) -> usize {
+pub fn place_in(list: &[u8], name: &[u8]) -> usize
+    ensures { λ r. ⌜ r ≡ placeIn (words (now (list .entry))) (now (name .entry)) ⌝ }
+{
     let mut k: usize = 0;
     let mut at: usize = 0;
     while at < list.len() {
@@ -67,7 +76,9 @@ pub fn place_in(list: &[u8], name: &[u8]) -> usize {
     k
 }
 
-fn no_numbers() -> Arguments {
+fn no_numbers() -> Arguments
+    ensures { λ r. ⌜ r ≡ noNumbers ⌝ }
+{
     Arguments {
         fit: false,
         n: 0,
@@ -78,12 +89,16 @@ fn no_numbers() -> Arguments {
     }
 }
 
-fn if_at(n: usize, k: usize, x: u64, other: u64) -> u64 {
+fn if_at(n: usize, k: usize, x: u64, other: u64) -> u64
+    ensures { λ r. ⌜ r ≡ ifAt n k x other ⌝ }
+{
     if n == k { x } else { other }
 }
 
 // The words after the one that ends at `end`.
-pub fn numbers(line: &[u8], end: usize) -> Arguments {
+pub fn numbers(line: &[u8], end: usize) -> Arguments
+    ensures { λ r. ⌜ r ≡ numbersFrom 0 0 0 0 0 (fields (drop end (now (line .entry)))) ⌝ }
+{
     let mut n: usize = 0;
     let mut a: u64 = 0;
     let mut b: u64 = 0;
@@ -112,21 +127,28 @@ pub fn numbers(line: &[u8], end: usize) -> Arguments {
     }
 }
 
-fn value(text: &[u8]) -> u64 {
+fn value(text: &[u8]) -> u64
+    ensures { λ r. ⌜ r ≡ orZero (parseOf (now (text .entry))) ⌝ }
+{
     match decimal::parse(text) {
         Parsed::Value(x) => x,
-        _ => 0,
+        Parsed::OutOfForm => 0,
+        Parsed::TooLarge => 0,
     }
 }
 
-fn put(words: &mut [u64; 4096], i: usize, x: u64) {
+fn put(words: &mut [u64; 4096], i: usize, x: u64)
+    ensures { λ _. ⌜ now (words .exit) ≡ putAt (now (words .entry)) i x ⌝ }
+{
     if i < 4096 {
         words[i] = x;
     }
 }
 
 // Stores the numbers after the word that ends at `end`.
-pub fn store(line: &[u8], end: usize, words: &mut [u64; 4096]) {
+pub fn store(line: &[u8], end: usize, words: &mut [u64; 4096])
+    ensures { λ _. ⌜ now (words .exit) ≡ storedFrom 0 (now (words .entry)) (fields (drop end (now (line .entry)))) ⌝ }
+{
     let mut i: usize = 0;
     let mut at = end;
     while at < line.len() {
@@ -138,17 +160,23 @@ pub fn store(line: &[u8], end: usize, words: &mut [u64; 4096]) {
 }
 
 // The first n words, where there are so many.
-pub fn first(s: &[u64], n: usize) -> &[u64] {
+pub fn first(s: &[u64], n: usize) -> &[u64]
+    ensures { λ r. ⌜ now r ≡ take n (now (s .entry)) ⌝ }
+{
     if n <= s.len() {
         return &s[..n];
     }
     s
 }
 
-pub fn size(x: u64) -> usize {
+pub fn size(x: u64) -> usize
+    ensures { λ r. ⌜ r ≡ x ⌝ }
+{
     x as usize
 }
 
-pub fn wide(x: usize) -> u64 {
+pub fn wide(x: usize) -> u64
+    ensures { λ r. ⌜ r ≡ x ⌝ }
+{
     x as u64
 }

@@ -1,4 +1,6 @@
 // What the console writes: bytes gather in a buffer, which goes out whole when it is full. `at` is how many have gathered.
+ghost use mathlib.Core.Path.{_≡_};
+ghost use Rattle.console_text.specs.Gathered.{gathered, withByte, withText, roomAt, withNumber, withList, withNumbers, withRefusal, withReply, known};
 use decimal::Written;
 use errors::Refusal;
 
@@ -16,8 +18,17 @@ pub enum Reply {
     Unknown,
 }
 
-pub fn is_known(r: Reply) -> bool {
-    if let Reply::Unknown = r { false } else { true }
+pub fn is_known(r: Reply) -> bool
+    ensures { λ b. ⌜ b ≡ known r ⌝ }
+{
+    match r {
+        Reply::Value(_) => true,
+        Reply::Nothing => true,
+        Reply::Done => true,
+        Reply::Refused(_) => true,
+        Reply::Bad => true,
+        Reply::Unknown => false,
+    }
 }
 
 // The first n bytes go out.
@@ -28,12 +39,16 @@ fn send(out: &[u8], n: usize) {
 }
 
 // Sends what has gathered.
-pub fn flush(out: &[u8; 65536], at: usize) -> usize {
+pub fn flush(out: &[u8; 65536], at: usize) -> usize
+    ensures { λ r. ⌜ r ≡ 0 ⌝ }
+{
     send(out, at);
     0
 }
 
-pub fn byte(out: &mut [u8; 65536], at: usize, b: u8) -> usize {
+pub fn byte(out: &mut [u8; 65536], at: usize, b: u8) -> usize
+    ensures { λ r. ⌜ gathered r (now (out .exit)) ≡ withByte (gathered at (now (out .entry))) b ⌝ }
+{
     if at < 65536 {
         out[at] = b;
         return at + 1;
@@ -43,7 +58,9 @@ pub fn byte(out: &mut [u8; 65536], at: usize, b: u8) -> usize {
     1
 }
 
-pub fn text(out: &mut [u8; 65536], at: usize, s: &[u8]) -> usize {
+pub fn text(out: &mut [u8; 65536], at: usize, s: &[u8]) -> usize
+    ensures { λ r. ⌜ gathered r (now (out .exit)) ≡ withText (gathered at (now (out .entry))) (now (s .entry)) ⌝ }
+{
     let mut to = at;
     let mut i: usize = 0;
     while i < s.len() {
@@ -54,14 +71,18 @@ pub fn text(out: &mut [u8; 65536], at: usize, s: &[u8]) -> usize {
 }
 
 // 65516 is 20 digits before the buffer's end.
-fn room(out: &[u8; 65536], at: usize) -> usize {
+fn room(out: &[u8; 65536], at: usize) -> usize
+    ensures { λ r. ⌜ r ≡ roomAt at ⌝ }
+{
     if 65516 < at {
         return flush(out, at);
     }
     at
 }
 
-pub fn number(out: &mut [u8; 65536], at: usize, x: u64) -> usize {
+pub fn number(out: &mut [u8; 65536], at: usize, x: u64) -> usize
+    ensures { λ r. ⌜ gathered r (now (out .exit)) ≡ withNumber (gathered at (now (out .entry))) x ⌝ }
+{
     let to = room(out, at);
     match decimal::write(x, out, to) {
         Written::End(end) => end,
@@ -70,13 +91,17 @@ pub fn number(out: &mut [u8; 65536], at: usize, x: u64) -> usize {
 }
 
 // A number after a space.
-pub fn next_number(out: &mut [u8; 65536], at: usize, x: u64) -> usize {
+pub fn next_number(out: &mut [u8; 65536], at: usize, x: u64) -> usize
+    ensures { λ r. ⌜ gathered r (now (out .exit)) ≡ withNumber (withByte (gathered at (now (out .entry))) 32) x ⌝ }
+{
     let to = byte(out, at, b' ');
     number(out, to, x)
 }
 
 // Each number of a list after a space.
-pub fn list(out: &mut [u8; 65536], at: usize, xs: &[u64]) -> usize {
+pub fn list(out: &mut [u8; 65536], at: usize, xs: &[u64]) -> usize
+    ensures { λ r. ⌜ gathered r (now (out .exit)) ≡ withList (gathered at (now (out .entry))) (now (xs .entry)) ⌝ }
+{
     let mut to = at;
     let mut i: usize = 0;
     while i < xs.len() {
@@ -87,7 +112,9 @@ pub fn list(out: &mut [u8; 65536], at: usize, xs: &[u64]) -> usize {
 }
 
 // The numbers of a list with a space between them.
-pub fn numbers(out: &mut [u8; 65536], at: usize, xs: &[u64]) -> usize {
+pub fn numbers(out: &mut [u8; 65536], at: usize, xs: &[u64]) -> usize
+    ensures { λ r. ⌜ gathered r (now (out .exit)) ≡ withNumbers (gathered at (now (out .entry))) (now (xs .entry)) ⌝ }
+{
     if xs.len() == 0 {
         return at;
     }
@@ -95,23 +122,36 @@ pub fn numbers(out: &mut [u8; 65536], at: usize, xs: &[u64]) -> usize {
     list(out, to, &xs[1..])
 }
 
-pub fn line_end(out: &mut [u8; 65536], at: usize) -> usize {
+pub fn line_end(out: &mut [u8; 65536], at: usize) -> usize
+    ensures { λ r. ⌜ gathered r (now (out .exit)) ≡ withByte (gathered at (now (out .entry))) 10 ⌝ }
+{
     byte(out, at, b'\n')
 }
 
-pub fn refusal(out: &mut [u8; 65536], at: usize, r: Refusal) -> usize {
+pub fn refusal(out: &mut [u8; 65536], at: usize, r: Refusal) -> usize
+    ensures { λ n. ⌜ gathered n (now (out .exit)) ≡ withRefusal (gathered at (now (out .entry))) r ⌝ }
+{
     let to = text(out, at, b"refused ");
     number(out, to, errors::number(r))
 }
 
-// A whole line.
-pub fn reply_line(out: &mut [u8; 65536], at: usize, r: Reply) -> usize {
-    let to = match r {
+fn answer(out: &mut [u8; 65536], at: usize, r: Reply) -> usize
+    ensures { λ n. ⌜ gathered n (now (out .exit)) ≡ withReply (gathered at (now (out .entry))) r ⌝ }
+{
+    match r {
         Reply::Value(x) => number(out, at, x),
         Reply::Nothing => text(out, at, b"none"),
         Reply::Done => text(out, at, b"ok"),
         Reply::Refused(e) => refusal(out, at, e),
-        _ => text(out, at, b"bad command"),
-    };
+        Reply::Bad => text(out, at, b"bad command"),
+        Reply::Unknown => text(out, at, b"bad command"),
+    }
+}
+
+// A whole line.
+pub fn reply_line(out: &mut [u8; 65536], at: usize, r: Reply) -> usize
+    ensures { λ n. ⌜ gathered n (now (out .exit)) ≡ withByte (withReply (gathered at (now (out .entry))) r) 10 ⌝ }
+{
+    let to = answer(out, at, r);
     line_end(out, to)
 }

@@ -1,18 +1,22 @@
--- `console_text::line::place_in` is safe and ends. No more words are passed than bytes. Assumes nothing.
+-- `console_text::line::place_in` meets its contract. The invariant: k words are passed, and the name is none of them. Assumes nothing.
+use mathlib.Core.Path.{_≡_, sym, _∙_}
+use native.Mathlib.Omega.{arith}
 use borrow.Author.Needs.{needs}
-use Prim.Native.Nat.{_≤_, _-_}
-use lib.ListN.{length}
+use Prim.Native.Nat.{_+_, _-_, _≤_}
+use lib.ListN.{length, drop}
+use Rattle.console_text.specs.Line.{words, placeIn}
+use Rattle.console_text.proofs.Reading.{place-hit, place-miss, place-end}
 use Rattle.console_text.proofs.line.place_in.Statement.{statement}
 use Rattle.console_text.proofs.line.place_in.Tie as tie
 
 abbrev Inv-loop : tie.InvT-loop
-Inv-loop list name k₀ at₀ k at = k ≤ at
+Inv-loop list name k₀ at₀ k at = (k ≤ at) × (placeIn (words list) name ≡ k + placeIn (words (drop at list)) name)
 
 abbrev μ-loop : tie.MeasureT-loop
 μ-loop list name k₀ at₀ k at = length list - at
 
 loop-holds : tie.Need-loop-holds Inv-loop μ-loop
-loop-holds c = search needs
+loop-holds c = (omega arith, omega arith)
 
 word-end-requires : tie.Need-word-end-requires Inv-loop μ-loop
 word-end-requires c κs = search needs
@@ -30,7 +34,11 @@ same-requires : tie.Need-same-requires Inv-loop μ-loop
 same-requires c κs = search needs
 
 returns : tie.Need-returns Inv-loop μ-loop
-returns c = search needs
+returns c =
+    let l = c .before .before .before .before .before .loop in
+    let a = c .before .before .before .before .before .before .before .before .args in
+    let w = c .before .before .before .word-end in
+    omega (arith, l .inv .1, place-hit (a .list .now) (l .at) (w .result) (c .before .before .before .before .loop-test .taken) (w .ensures .1 .1) (a .name .now) (sym (c .before .same .ensures) ∙ c .if1 .taken))
 
 add-k : tie.Need-add-k Inv-loop μ-loop
 add-k c = search needs
@@ -42,10 +50,17 @@ loop-less : tie.Need-loop-less Inv-loop μ-loop
 loop-less c = search needs
 
 loop-again : tie.Need-loop-again Inv-loop μ-loop
-loop-again c = search needs
+loop-again c =
+    let l = c .before .before .before .before .before .loop in
+    let a = c .before .before .before .before .before .before .before .before .args in
+    let w = c .before .before .before .word-end in
+    (omega arith, omega (arith, l .inv .1, place-miss (a .list .now) (l .at) (w .result) (c .before .before .before .before .loop-test .taken) (w .ensures .1 .1) (a .name .now) (sym (c .before .same .ensures) ∙ c .if1 .left)))
 
 returns-2 : tie.Need-returns-2 Inv-loop μ-loop
-returns-2 c = search needs
+returns-2 c =
+    let l = c .before .loop in
+    let a = c .before .before .before .before .args in
+    omega (arith, l .inv .1, place-end (a .list .now) (a .name .now) (l .at) (c .loop-test .left))
 
 pub place-in-spec : {M : Type 1} → statement M
 place-in-spec =

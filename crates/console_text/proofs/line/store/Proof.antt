@@ -1,18 +1,23 @@
--- `console_text::line::store` is safe and ends. No more numbers are stored than bytes are passed. Assumes nothing.
+-- `console_text::line::store` meets its contract. The invariant: what is left of the line goes after what is stored. Assumes nothing.
+use mathlib.Core.Path.{_≡_, refl, ap, sym, _∙_}
+use mathlib.Core.List.{List}
+use native.Mathlib.Omega.{arith}
 use borrow.Author.Needs.{needs}
-use Prim.Native.Nat.{_≤_, _-_}
-use lib.ListN.{length}
+use Prim.Native.Nat.{ℕ, _+_, _-_, _≤_}
+use lib.ListN.{length, drop}
+use Rattle.console_text.specs.Line.{fields, storedFrom}
+use Rattle.console_text.proofs.Reading.{store-next, store-end}
 use Rattle.console_text.proofs.line.store.Statement.{statement}
 use Rattle.console_text.proofs.line.store.Tie as tie
 
 abbrev Inv-loop : tie.InvT-loop
-Inv-loop line end words₀ i₀ at₀ words i at = i ≤ at
+Inv-loop line end words₀ i₀ at₀ words i at = (i ≤ at) × (storedFrom 0 words₀ (fields (drop end line)) ≡ storedFrom i words (fields (drop at line)))
 
 abbrev μ-loop : tie.MeasureT-loop
 μ-loop line end words₀ i₀ at₀ words i at = length line - at
 
 loop-holds : tie.Need-loop-holds Inv-loop μ-loop
-loop-holds c = search needs
+loop-holds c = (omega arith, refl)
 
 add-start : tie.Need-add-start Inv-loop μ-loop
 add-start c = search needs
@@ -42,10 +47,20 @@ loop-less : tie.Need-loop-less Inv-loop μ-loop
 loop-less c = search needs
 
 loop-again : tie.Need-loop-again Inv-loop μ-loop
-loop-again c = search needs
+loop-again c =
+    let l = c .before .before .before .before .before .before .loop in
+    let a = c .before .before .before .before .before .before .before .before .args in
+    let w = c .before .before .before .before .word-end in (
+      omega arith,
+      l .inv .1
+          ∙ store-next (a .line .now) (l .at) (w .result) (c .before .before .before .before .before .loop-test .taken) (w .ensures .1 .1) (l .i) (c .before .value .result) (l .words) (c .before .value .ensures)
+          ∙ ap (λ (ws : List ℕ). storedFrom (l .i + 1) ws (fields (drop (w .result) (a .line .now)))) (sym (c .put .ensures)),
+    )
 
 returns : tie.Need-returns Inv-loop μ-loop
-returns c = search needs
+returns c =
+    let l = c .before .loop in
+    sym (l .inv .1 ∙ store-end (c .before .before .before .args .line .now) (l .at) (c .loop-test .left) (l .i) (l .words))
 
 pub store-spec : {M : Type 1} → statement M
 store-spec =
