@@ -1,4 +1,6 @@
 // The commands that write into the lent words.
+ghost use mathlib.Core.Path.{_≡_};
+ghost use Rattle.console_record.specs.Section.{turnOf, toldPushed, toldBuilt, pokeOf, alterOf, withinOf};
 use crate::Record;
 use crate::Told;
 use console_text::line;
@@ -9,7 +11,9 @@ use elias_fano::builder::Built;
 use elias_fano::builder::Pushed;
 
 // A builder that is handed back is held from then on.
-fn pushed(p: Pushed, s: Record) -> Told {
+fn pushed(p: Pushed, s: Record) -> Told
+    ensures { λ t. ⌜ t ≡ toldPushed p s ⌝ }
+{
     match p {
         Pushed::Accepted(b) => Told {
             reply: Reply::Done,
@@ -27,7 +31,9 @@ fn pushed(p: Pushed, s: Record) -> Told {
 }
 
 // The words of a finish are the image from then on.
-fn built(b: Built, s: Record) -> Told {
+fn built(b: Built, s: Record) -> Told
+    ensures { λ t. ⌜ t ≡ toldBuilt b s ⌝ }
+{
     let mut t = s;
     match b {
         Built::Words(n) => {
@@ -45,7 +51,9 @@ fn built(b: Built, s: Record) -> Told {
 }
 
 // `poke I V`
-fn poke(words: &mut [u64], i: usize, x: u64, s: Record) -> Told {
+fn poke(words: &mut [u64], i: usize, x: u64, s: Record) -> Told
+    ensures { λ t. ⌜ turnOf t (now (words .exit)) ≡ pokeOf i x s (now (words .entry)) ⌝ }
+{
     if i < words.len() {
         words[i] = x;
         return Told {
@@ -60,7 +68,9 @@ fn poke(words: &mut [u64], i: usize, x: u64, s: Record) -> Told {
 }
 
 // `poke` 5, `start` 6, `reading` 7, `finish` 8.
-fn answer(k: usize, r: Arguments, words: &mut [u64], s: Record) -> Told {
+fn answer(k: usize, r: Arguments, words: &mut [u64], s: Record) -> Told
+    ensures { λ t. ⌜ turnOf t (now (words .exit)) ≡ alterOf k r s (now (words .entry)) ⌝ }
+{
     let b = s.builder;
     match k {
         5 => poke(words, line::size(r.a), r.b, s),
@@ -71,7 +81,9 @@ fn answer(k: usize, r: Arguments, words: &mut [u64], s: Record) -> Told {
 }
 
 // The same over the whole buffer, of which the first words are lent.
-pub fn within(k: usize, r: Arguments, buffer: &mut [u64], s: Record) -> Told {
+pub fn within(k: usize, r: Arguments, buffer: &mut [u64], s: Record) -> Told
+    ensures { λ t. ⌜ turnOf t (now (buffer .exit)) ≡ withinOf k r s (now (buffer .entry)) ⌝ }
+{
     let n = s.lent;
     if buffer.len() < n {
         return Told {

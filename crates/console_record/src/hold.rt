@@ -1,4 +1,6 @@
 // The commands that set what is held, and ask nothing of a record.
+ghost use mathlib.Core.Path.{_≡_};
+ghost use Rattle.console_record.specs.Section.{turnOf, lending, lendOf, forgeOf, setImage, holdOf};
 use crate::Record;
 use crate::Told;
 use bit_words::fill;
@@ -8,7 +10,9 @@ use console_text::output::Reply;
 use elias_fano::builder::Builder;
 
 // A buffer of n words: the builder is all zero, and the image has no words.
-pub fn of(n: usize) -> Record {
+pub fn of(n: usize) -> Record
+    ensures { λ t. ⌜ t ≡ lending n ⌝ }
+{
     Record {
         lent: n,
         image: 0,
@@ -22,7 +26,9 @@ pub fn of(n: usize) -> Record {
 }
 
 // `buffer W V`, where there are so many words.
-pub fn lend(buffer: &mut [u64], n: usize, x: u64, s: Record) -> Told {
+pub fn lend(buffer: &mut [u64], n: usize, x: u64, s: Record) -> Told
+    ensures { λ t. ⌜ turnOf t (now (buffer .exit)) ≡ lendOf n x s (now (buffer .entry)) ⌝ }
+{
     if buffer.len() < n {
         return Told {
             reply: Reply::Bad,
@@ -37,7 +43,9 @@ pub fn lend(buffer: &mut [u64], n: usize, x: u64, s: Record) -> Told {
 }
 
 // `forge U N M LAST`
-fn forge(r: Arguments, s: Record) -> Told {
+fn forge(r: Arguments, s: Record) -> Told
+    ensures { λ t. ⌜ t ≡ forgeOf r s ⌝ }
+{
     let builder = Builder {
         universe: r.a,
         num_vals: r.b,
@@ -55,7 +63,9 @@ fn forge(r: Arguments, s: Record) -> Told {
 }
 
 // `image L`, of the words that are lent.
-fn image(n: usize, s: Record) -> Told {
+fn image(n: usize, s: Record) -> Told
+    ensures { λ t. ⌜ t ≡ setImage n s ⌝ }
+{
     if s.lent < n {
         return Told {
             reply: Reply::Bad,
@@ -71,7 +81,9 @@ fn image(n: usize, s: Record) -> Told {
 }
 
 // `forge` 0, `image` 1.
-pub fn answer(k: usize, r: Arguments, s: Record) -> Told {
+pub fn answer(k: usize, r: Arguments, s: Record) -> Told
+    ensures { λ t. ⌜ t ≡ holdOf k r s ⌝ }
+{
     if k == 0 {
         return forge(r, s);
     }

@@ -1,4 +1,7 @@
 // The console's section Record: a lent buffer, a builder, and how many of the buffer's first words are the image.
+ghost use mathlib.Core.Path.{_≡_};
+ghost use Rattle.console_record.specs.Section.{turnOf, lending, fitsOf, doneOf, answerOf};
+
 mod alter;
 mod ask;
 mod hold;
@@ -23,12 +26,16 @@ pub struct Told {
 }
 
 // Before the first `buffer`.
-pub fn nothing() -> Record {
+pub fn nothing() -> Record
+    ensures { λ t. ⌜ t ≡ lending 0 ⌝ }
+{
     hold::of(0)
 }
 
 // How many numbers each command takes, and which of them is a choice, in the order of the list in `answer`.
-fn fits(k: usize, r: Arguments) -> bool {
+fn fits(k: usize, r: Arguments) -> bool
+    ensures { λ t. ⌜ t ≡ fitsOf k r ⌝ }
+{
     match k {
         0 => r.n == 4,
         2 => r.n == 0,
@@ -39,7 +46,9 @@ fn fits(k: usize, r: Arguments) -> bool {
 }
 
 // What is held is set, asked or written into.
-fn done(k: usize, r: Arguments, buffer: &mut [u64], s: Record) -> Told {
+fn done(k: usize, r: Arguments, buffer: &mut [u64], s: Record) -> Told
+    ensures { λ t. ⌜ turnOf t (now (buffer .exit)) ≡ doneOf k r s (now (buffer .entry)) ⌝ }
+{
     if k < 2 {
         return hold::answer(k, r, s);
     }
@@ -56,8 +65,10 @@ fn done(k: usize, r: Arguments, buffer: &mut [u64], s: Record) -> Told {
     alter::within(k, r, buffer, s)
 }
 
-// A command that takes a few numbers and has one answer.
-pub fn answer(name: &[u8], r: Arguments, buffer: &mut [u64], s: Record) -> Told {
+// A command that takes a few numbers and has one answer. That the numbers are in form, `r.fit`, is tested by the caller.
+pub fn answer(name: &[u8], r: Arguments, buffer: &mut [u64], s: Record) -> Told
+    ensures { λ t. ⌜ turnOf t (now (buffer .exit)) ≡ answerOf (now (name .entry)) r s (now (buffer .entry)) ⌝ }
+{
     let k = line::place_in(
         b"forge image open select buffer poke start reading finish",
         name,

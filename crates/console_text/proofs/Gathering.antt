@@ -9,7 +9,7 @@ use lib.Seq.{drop-cons, take-all}
 use borrow.Author.Tests.{lt-ltb, le-ltb}
 use Rattle.decimal.specs.Decimal.{left, writeOf}
 use Rattle.decimal.specs.declared.Written.{Written}
-use Rattle.console_text.specs.Gathered.{Gathered, gathered, withByte, withText, roomAt, endOf, ofLeft, withNumber, withList, withNumbers}
+use Rattle.console_text.specs.Gathered.{Gathered, gathered, withByte, withText, roomAt, endAfter, ofLeft, withNumber, withList, withNumbers}
 
 module _ (k : ℕ) (l : List ℕ) (b : ℕ) where
   pub byte-more : k < 65536 → withByte (gathered k l) b ≡ gathered (k + 1) (set l k b)
@@ -45,7 +45,7 @@ module _ (k : ℕ) where
   room-here h = simp (le-ltb 65516 k h)
 
 -- what a write of x at `to` leaves, o, with its answer w
-pub number-written : (k x : ℕ) (l o : List ℕ) (to : ℕ) (w : Written) → to ≡ roomAt k → left w o ≡ writeOf x l to → gathered (endOf to w) o ≡ withNumber (gathered k l) x
+pub number-written : (k x : ℕ) (l o : List ℕ) (to : ℕ) (w : Written) → to ≡ roomAt k → left w o ≡ writeOf x l to → gathered (endAfter to w) o ≡ withNumber (gathered k l) x
 unfolding withNumber
 number-written k x l o to w e f = ap (ofLeft to) f ∙ ap (λ (j : ℕ). ofLeft j (writeOf x l j)) e
 

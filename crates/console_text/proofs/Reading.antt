@@ -13,104 +13,104 @@ use Rattle.decimal.specs.Decimal.{parseOf}
 use Rattle.decimal.specs.declared.Parsed.{Parsed}
 use Rattle.decimal.specs.declared.Parsed.the-variants.{Value, OutOfForm, TooLarge}
 use Rattle.console_text.specs.declared.line.Arguments.{Arguments}
-use Rattle.console_text.specs.Line.{before, grow, words, same, placeIn, split, fields, numbersOf, noNumbers, numbersFrom, ifValue, ifAt, orZero, putAt, storedFrom}
+use Rattle.console_text.specs.Line.{upTo, grow, wordsIn, sameText, placeAmong, split, fields, numbersOf, noNumbers, numbersFrom, ifValue, ifAt, orZero, putAt, storedFrom}
 
 module _ (t : List ℕ) (b i : ℕ) where
   -- the byte stands at i
-  pub before-here : i < length t → getD t i 0 ≡ b → before b (drop i t) ≡ 0
-  unfolding before
+  pub before-here : i < length t → getD t i 0 ≡ b → upTo b (drop i t) ≡ 0
+  unfolding upTo
   before-here h e = rw (drop-cons t i 0) (simp (eq-eqb (getD t i 0) b e))
 
   -- it does not
-  pub before-more : i < length t → (getD t i 0 ≡ b → ⊥) → before b (drop i t) ≡ suc (before b (drop (i + 1) t))
-  unfolding before
+  pub before-more : i < length t → (getD t i 0 ≡ b → ⊥) → upTo b (drop i t) ≡ suc (upTo b (drop (i + 1) t))
+  unfolding upTo
   before-more h e = rw (add-one, drop-cons t i 0) (simp (ne-eqb (getD t i 0) b e))
 
-  pub before-end : length t ≤ i → before b (drop i t) ≡ 0
-  unfolding before
+  pub before-end : length t ≤ i → upTo b (drop i t) ≡ 0
+  unfolding upTo
   before-end h = rw (drop-of-length-le t h)
 
 -- ---- words
 
-one-word : (x : ℕ) (c : Bool) → eqb x 32 ≡ c → words (x ∷ []) ≡ take (before 32 (x ∷ [])) (x ∷ []) ∷ words (drop (suc (before 32 (x ∷ []))) (x ∷ []))
-unfolding words before grow
+one-word : (x : ℕ) (c : Bool) → eqb x 32 ≡ c → wordsIn (x ∷ []) ≡ take (upTo 32 (x ∷ [])) (x ∷ []) ∷ wordsIn (drop (suc (upTo 32 (x ∷ []))) (x ∷ []))
+unfolding wordsIn upTo grow
 one-word x true e = simp e
 one-word x false e = simp e
 
 module _ (x : ℕ) (xs : List ℕ) where
   more-words :
-      (c : Bool) → eqb x 32 ≡ c → words xs ≡ take (before 32 xs) xs ∷ words (drop (suc (before 32 xs)) xs)
-      → words (x ∷ xs) ≡ take (before 32 (x ∷ xs)) (x ∷ xs) ∷ words (drop (suc (before 32 (x ∷ xs))) (x ∷ xs))
-  unfolding words before grow
+      (c : Bool) → eqb x 32 ≡ c → wordsIn xs ≡ take (upTo 32 xs) xs ∷ wordsIn (drop (suc (upTo 32 xs)) xs)
+      → wordsIn (x ∷ xs) ≡ take (upTo 32 (x ∷ xs)) (x ∷ xs) ∷ wordsIn (drop (suc (upTo 32 (x ∷ xs))) (x ∷ xs))
+  unfolding wordsIn upTo grow
   more-words true e f = simp e
   more-words false e f = simp e (ap (grow x) f ∙ refl)
 
   more-split :
-      (c : Bool) → eqb x 32 ≡ c → split xs ≡ take (before 32 xs) xs ∷ fields (drop (before 32 xs) xs)
-      → split (x ∷ xs) ≡ take (before 32 (x ∷ xs)) (x ∷ xs) ∷ fields (drop (before 32 (x ∷ xs)) (x ∷ xs))
-  unfolding split before grow fields
+      (c : Bool) → eqb x 32 ≡ c → split xs ≡ take (upTo 32 xs) xs ∷ fields (drop (upTo 32 xs) xs)
+      → split (x ∷ xs) ≡ take (upTo 32 (x ∷ xs)) (x ∷ xs) ∷ fields (drop (upTo 32 (x ∷ xs)) (x ∷ xs))
+  unfolding split upTo grow fields
   more-split true e f = simp e
   more-split false e f = simp e (ap (grow x) f ∙ refl)
 
 -- the first word, and those after the space behind it
-first-word : (t : List ℕ) → 0 < length t → words t ≡ take (before 32 t) t ∷ words (drop (suc (before 32 t)) t)
+first-word : (t : List ℕ) → 0 < length t → wordsIn t ≡ take (upTo 32 t) t ∷ wordsIn (drop (suc (upTo 32 t)) t)
 first-word [] h = absurd (omega arith)
 first-word (x ∷ []) h = one-word x (eqb x 32) refl
 first-word (x ∷ (y ∷ ys)) h = more-words x (y ∷ ys) (eqb x 32) refl (first-word (y ∷ ys) (omega arith))
 
-first-field : (t : List ℕ) → split t ≡ take (before 32 t) t ∷ fields (drop (before 32 t) t)
-unfolding split before fields
+first-field : (t : List ℕ) → split t ≡ take (upTo 32 t) t ∷ fields (drop (upTo 32 t) t)
+unfolding split upTo fields
 first-field [] = refl
 first-field (x ∷ xs) = more-split x xs (eqb x 32) refl (first-field xs)
 
 -- the word that begins at `at` and ends at `end`
-module _ (t : List ℕ) (at end : ℕ) (h : at < length t) (e : end ≡ at + before 32 (drop at t)) where
-  word-next : words (drop at t) ≡ take (end - at) (drop at t) ∷ words (drop (end + 1) t)
+module _ (t : List ℕ) (at end : ℕ) (h : at < length t) (e : end ≡ at + upTo 32 (drop at t)) where
+  word-next : wordsIn (drop at t) ≡ take (end - at) (drop at t) ∷ wordsIn (drop (end + 1) t)
   word-next =
-      let b = before 32 (drop at t) in
+      let b = upTo 32 (drop at t) in
       let k : end - at ≡ b = omega (arith, e) in
       let j : at + suc b ≡ end + 1 = omega (arith, e) in
       first-word (drop at t) (rw length-drop (omega arith))
-      ∙ ap (λ (w : List (List ℕ)). take b (drop at t) ∷ w) (ap words (drop-drop (suc b) at t ∙ ap (λ (n : ℕ). drop n t) j))
-      ∙ ap (λ (n : ℕ). take n (drop at t) ∷ words (drop (end + 1) t)) (sym k)
+      ∙ ap (λ (w : List (List ℕ)). take b (drop at t) ∷ w) (ap wordsIn (drop-drop (suc b) at t ∙ ap (λ (n : ℕ). drop n t) j))
+      ∙ ap (λ (n : ℕ). take n (drop at t) ∷ wordsIn (drop (end + 1) t)) (sym k)
 
   module _ (name : List ℕ) where
-    pub place-hit : same (take (end - at) (drop at t)) name ≡ true → placeIn (words (drop at t)) name ≡ 0
-    unfolding placeIn
+    pub place-hit : sameText (take (end - at) (drop at t)) name ≡ true → placeAmong (wordsIn (drop at t)) name ≡ 0
+    unfolding placeAmong
     place-hit f = rw word-next (simp f)
 
-    pub place-miss : same (take (end - at) (drop at t)) name ≡ false → placeIn (words (drop at t)) name ≡ suc (placeIn (words (drop (end + 1) t)) name)
-    unfolding placeIn
+    pub place-miss : sameText (take (end - at) (drop at t)) name ≡ false → placeAmong (wordsIn (drop at t)) name ≡ suc (placeAmong (wordsIn (drop (end + 1) t)) name)
+    unfolding placeAmong
     place-miss f = rw word-next (simp f)
 
-pub place-end : (t name : List ℕ) (at : ℕ) → length t ≤ at → placeIn (words (drop at t)) name ≡ 0
-unfolding placeIn words
+pub place-end : (t name : List ℕ) (at : ℕ) → length t ≤ at → placeAmong (wordsIn (drop at t)) name ≡ 0
+unfolding placeAmong wordsIn
 place-end t name at h = rw (drop-of-length-le t h)
 
 -- ---- texts, byte by byte
 
-pub same-long : (a b : List ℕ) → (length a ≡ length b → ⊥) → same a b ≡ false
-unfolding same
+pub same-long : (a b : List ℕ) → (length a ≡ length b → ⊥) → sameText a b ≡ false
+unfolding sameText
 same-long [] [] h = absurd (h refl)
 same-long [] (y ∷ b) h = refl
 same-long (x ∷ a) [] h = refl
 same-long (x ∷ a) (y ∷ b) h = rest (eqb x y) (same-long a b (λ e. h (ap suc e)))
   where
-    rest : (c : Bool) → same a b ≡ false → cond c (same a b) false ≡ false
+    rest : (c : Bool) → sameText a b ≡ false → cond c (sameText a b) false ≡ false
     rest true f = f
     rest false f = refl
 
 module _ (a b : List ℕ) (i : ℕ) where
-  pub same-more : i < length a → i < length b → getD a i 0 ≡ getD b i 0 → same (drop i a) (drop i b) ≡ same (drop (i + 1) a) (drop (i + 1) b)
-  unfolding same
+  pub same-more : i < length a → i < length b → getD a i 0 ≡ getD b i 0 → sameText (drop i a) (drop i b) ≡ sameText (drop (i + 1) a) (drop (i + 1) b)
+  unfolding sameText
   same-more h k e = rw (add-one, drop-cons a i 0, drop-cons b i 0) (simp (eq-eqb (getD a i 0) (getD b i 0) e))
 
-  pub same-not : i < length a → i < length b → (getD a i 0 ≡ getD b i 0 → ⊥) → same (drop i a) (drop i b) ≡ false
-  unfolding same
+  pub same-not : i < length a → i < length b → (getD a i 0 ≡ getD b i 0 → ⊥) → sameText (drop i a) (drop i b) ≡ false
+  unfolding sameText
   same-not h k e = rw (drop-cons a i 0, drop-cons b i 0) (simp (ne-eqb (getD a i 0) (getD b i 0) e))
 
-  pub same-done : length a ≤ i → length b ≤ i → same (drop i a) (drop i b) ≡ true
-  unfolding same
+  pub same-done : length a ≤ i → length b ≤ i → sameText (drop i a) (drop i b) ≡ true
+  unfolding sameText
   same-done h k = rw (drop-of-length-le a h, drop-of-length-le b k)
 
 -- ---- numbers
@@ -121,11 +121,11 @@ stop-by OutOfForm f h = refl
 stop-by TooLarge f h = refl
 
 -- the word that begins after the byte at `at` and ends at `end`
-module _ (t : List ℕ) (at end : ℕ) (h : at < length t) (e : end ≡ at + 1 + before 32 (drop (at + 1) t)) where
+module _ (t : List ℕ) (at end : ℕ) (h : at < length t) (e : end ≡ at + 1 + upTo 32 (drop (at + 1) t)) where
   field-next : fields (drop at t) ≡ take (end - (at + 1)) (drop (at + 1) t) ∷ fields (drop end t)
   unfolding fields
   field-next =
-      let b = before 32 (drop (at + 1) t) in
+      let b = upTo 32 (drop (at + 1) t) in
       let k : end - (at + 1) ≡ b = omega (arith, e) in
       rw (drop-cons t at 0)
       (ap split (ap (λ (n : ℕ). drop n t) (sym (add-one at)))

@@ -32,12 +32,12 @@ withText g (b ∷ bs) = withText (withByte g b) bs
 abbrev pub roomAt : ℕ → ℕ
 roomAt k = cond (ltb 65516 k) 0 k
 
-abbrev pub endOf : ℕ → Written → ℕ
-endOf k (End e) = e
-endOf k NoRoom = k
+abbrev pub endAfter : ℕ → Written → ℕ
+endAfter k (End e) = e
+endAfter k NoRoom = k
 
 abbrev pub ofLeft : ℕ → Left → Gathered
-ofLeft k l = gathered (endOf k (l .answer)) (l .bytes)
+ofLeft k l = gathered (endAfter k (l .answer)) (l .bytes)
 
 unfoldable pub withNumber : Gathered → ℕ → Gathered
 withNumber g x = ofLeft (roomAt (g .at)) (writeOf x (g .bytes) (roomAt (g .at)))

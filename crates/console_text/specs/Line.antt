@@ -10,9 +10,9 @@ use Rattle.decimal.specs.declared.Parsed.the-variants.{Value, OutOfForm, TooLar
 use Rattle.console_text.specs.declared.line.Arguments.{Arguments}
 
 -- how many bytes stand before the first b
-unfoldable pub before : ℕ → List ℕ → ℕ
-before b [] = 0
-before b (x ∷ xs) = cond (eqb x b) 0 (suc (before b xs))
+unfoldable pub upTo : ℕ → List ℕ → ℕ
+upTo b [] = 0
+upTo b (x ∷ xs) = cond (eqb x b) 0 (suc (upTo b xs))
 
 -- ---- words
 
@@ -22,20 +22,20 @@ grow x [] = (x ∷ []) ∷ []
 grow x (w ∷ ws) = (x ∷ w) ∷ ws
 
 -- the words of a list; a space at its end begins none
-unfoldable pub words : List ℕ → List (List ℕ)
-words [] = []
-words (x ∷ xs) = cond (eqb x 32) ([] ∷ words xs) (grow x (words xs))
+unfoldable pub wordsIn : List ℕ → List (List ℕ)
+wordsIn [] = []
+wordsIn (x ∷ xs) = cond (eqb x 32) ([] ∷ wordsIn xs) (grow x (wordsIn xs))
 
-unfoldable pub same : List ℕ → List ℕ → Bool
-same [] [] = true
-same [] (y ∷ ys) = false
-same (x ∷ xs) [] = false
-same (x ∷ xs) (y ∷ ys) = cond (eqb x y) (same xs ys) false
+unfoldable pub sameText : List ℕ → List ℕ → Bool
+sameText [] [] = true
+sameText [] (y ∷ ys) = false
+sameText (x ∷ xs) [] = false
+sameText (x ∷ xs) (y ∷ ys) = cond (eqb x y) (sameText xs ys) false
 
 -- which of the words the name is, counted from 0, or how many there are
-unfoldable pub placeIn : List (List ℕ) → List ℕ → ℕ
-placeIn [] name = 0
-placeIn (w ∷ ws) name = cond (same w name) 0 (suc (placeIn ws name))
+unfoldable pub placeAmong : List (List ℕ) → List ℕ → ℕ
+placeAmong [] name = 0
+placeAmong (w ∷ ws) name = cond (sameText w name) 0 (suc (placeAmong ws name))
 
 -- what stands between spaces, with nothing left out
 unfoldable pub split : List ℕ → List (List ℕ)

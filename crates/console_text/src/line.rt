@@ -3,7 +3,7 @@ ghost use mathlib.Core.Path.{_≡_};
 ghost use Prim.Native.Nat.{_+_, _≤_};
 ghost use lib.ListN.{length, take, drop};
 ghost use Rattle.decimal.specs.Decimal.{parseOf};
-ghost use Rattle.console_text.specs.Line.{before, words, same, placeIn, fields, noNumbers, ifAt, numbersFrom, orZero, putAt, storedFrom};
+ghost use Rattle.console_text.specs.Line.{upTo, wordsIn, sameText, placeAmong, fields, noNumbers, ifAt, numbersFrom, orZero, putAt, storedFrom};
 use decimal::Parsed;
 
 // The words after a command as numbers: whether all of them are, how many, and the first four.
@@ -21,7 +21,7 @@ pub fn find(text: &[u8], from: usize, b: u8) -> usize
     requires { ⌜ from ≤ length (now text) ⌝ }
     ensures { λ r. ⌜ from ≤ r ⌝ }
     ensures { λ r. ⌜ r ≤ length (now (text .entry)) ⌝ }
-    ensures { λ r. ⌜ r ≡ from + before b (drop from (now (text .entry))) ⌝ }
+    ensures { λ r. ⌜ r ≡ from + upTo b (drop from (now (text .entry))) ⌝ }
 {
     let mut i = from;
     while i < text.len() {
@@ -38,13 +38,13 @@ pub fn word_end(line: &[u8], from: usize) -> usize
     requires { ⌜ from ≤ length (now line) ⌝ }
     ensures { λ r. ⌜ from ≤ r ⌝ }
     ensures { λ r. ⌜ r ≤ length (now (line .entry)) ⌝ }
-    ensures { λ r. ⌜ r ≡ from + before 32 (drop from (now (line .entry))) ⌝ }
+    ensures { λ r. ⌜ r ≡ from + upTo 32 (drop from (now (line .entry))) ⌝ }
 {
     find(line, from, b' ')
 }
 
 fn same(a: &[u8], b: &[u8]) -> bool
-    ensures { λ r. ⌜ r ≡ same (now (a .entry)) (now (b .entry)) ⌝ }
+    ensures { λ r. ⌜ r ≡ sameText (now (a .entry)) (now (b .entry)) ⌝ }
 {
     if a.len() != b.len() {
         return false;
@@ -61,7 +61,7 @@ fn same(a: &[u8], b: &[u8]) -> bool
 
 // Which word of the list the name is, counted from 0, or how many words the list has.
 pub fn place_in(list: &[u8], name: &[u8]) -> usize
-    ensures { λ r. ⌜ r ≡ placeIn (words (now (list .entry))) (now (name .entry)) ⌝ }
+    ensures { λ r. ⌜ r ≡ placeAmong (wordsIn (now (list .entry))) (now (name .entry)) ⌝ }
 {
     let mut k: usize = 0;
     let mut at: usize = 0;

@@ -1,7 +1,7 @@
 -- `console_text::line::find` meets its contract. The invariant: from `from` on it is as far to the byte as from `i` on. Assumes nothing.
 use mathlib.Core.Path.{_≡_, refl}
 use native.Mathlib.Omega.{arith}
-use Rattle.console_text.specs.Line.{before}
+use Rattle.console_text.specs.Line.{upTo}
 use Rattle.console_text.proofs.Reading.{before-here, before-more, before-end}
 use borrow.Author.Needs.{needs}
 use Prim.Native.Nat.{_+_, _-_, _≤_}
@@ -10,7 +10,7 @@ use Rattle.console_text.proofs.line.find.Statement.{statement}
 use Rattle.console_text.proofs.line.find.Tie as tie
 
 abbrev Inv-loop : tie.InvT-loop
-Inv-loop text from b i₀ i = (from ≤ i) × (i ≤ length text) × (from + before b (drop from text) ≡ i + before b (drop i text))
+Inv-loop text from b i₀ i = (from ≤ i) × (i ≤ length text) × (from + upTo b (drop from text) ≡ i + upTo b (drop i text))
 
 abbrev μ-loop : tie.MeasureT-loop
 μ-loop text from b i₀ i = length text - i

@@ -4,13 +4,13 @@ use native.Mathlib.Omega.{arith}
 use borrow.Author.Needs.{needs}
 use Prim.Native.Nat.{_+_, _-_, _≤_}
 use lib.ListN.{length, drop}
-use Rattle.console_text.specs.Line.{words, placeIn}
+use Rattle.console_text.specs.Line.{wordsIn, placeAmong}
 use Rattle.console_text.proofs.Reading.{place-hit, place-miss, place-end}
 use Rattle.console_text.proofs.line.place_in.Statement.{statement}
 use Rattle.console_text.proofs.line.place_in.Tie as tie
 
 abbrev Inv-loop : tie.InvT-loop
-Inv-loop list name k₀ at₀ k at = (k ≤ at) × (placeIn (words list) name ≡ k + placeIn (words (drop at list)) name)
+Inv-loop list name k₀ at₀ k at = (k ≤ at) × (placeAmong (wordsIn list) name ≡ k + placeAmong (wordsIn (drop at list)) name)
 
 abbrev μ-loop : tie.MeasureT-loop
 μ-loop list name k₀ at₀ k at = length list - at

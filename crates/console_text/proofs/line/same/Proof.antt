@@ -4,13 +4,13 @@ use native.Mathlib.Omega.{arith}
 use borrow.Author.Needs.{needs}
 use Prim.Native.Nat.{_≤_, _-_}
 use lib.ListN.{length, drop}
-use Rattle.console_text.specs.Line.{same}
+use Rattle.console_text.specs.Line.{sameText}
 use Rattle.console_text.proofs.Reading.{same-long, same-more, same-not, same-done}
 use Rattle.console_text.proofs.line.same.Statement.{statement}
 use Rattle.console_text.proofs.line.same.Tie as tie
 
 abbrev Inv-loop : tie.InvT-loop
-Inv-loop a b i₀ i = (i ≤ length a) × (same a b ≡ same (drop i a) (drop i b))
+Inv-loop a b i₀ i = (i ≤ length a) × (sameText a b ≡ sameText (drop i a) (drop i b))
 
 abbrev μ-loop : tie.MeasureT-loop
 μ-loop a b i₀ i = length a - i

@@ -1,0 +1,166 @@
+-- Laws of the section's definitions, by cases. Assumes nothing.
+use mathlib.Core.Path.{_≡_, refl}
+use mathlib.Core.Bool.{true, false}
+use mathlib.Core.Logic.{_⊎_, inl, inr, ⊎-elim}
+use mathlib.Core.List.{List, _++_}
+use Prim.Native.Nat.{ℕ, _≤_, _<_}
+use native.Mathlib.Omega.{arith}
+use lib.Dec.{eqb, ltb}
+use lib.ListN.{length, take, drop, set, replicate}
+use borrow.Author.Tests.{lt-ltb, le-ltb, eq-eqb, ne-eqb}
+use Rattle.errors.specs.Answer.{done}
+use Rattle.elias_fano.specs.declared.builder.Builder.{Builder}
+use Rattle.elias_fano.specs.declared.builder.Pushed.{Pushed}
+use Rattle.elias_fano.specs.declared.builder.Pushed.the-variants as pushed
+use Rattle.elias_fano.specs.declared.builder.Built.{Built}
+use Rattle.elias_fano.specs.declared.builder.Built.the-variants as built
+use Rattle.elias_fano.specs.Accept.{openOf, selectOf}
+use Rattle.elias_fano.specs.Made.{ofPushed, ofBuilt}
+use Rattle.elias_fano.specs.Steps.{newOf, pushOf, buildOf}
+use Rattle.console_text.specs.declared.line.Arguments.{Arguments}
+use Rattle.console_text.specs.declared.output.Reply.the-variants as reply
+use Rattle.console_record.specs.declared.Record.{Record}
+use Rattle.console_record.specs.Section.{answers, bad, unknown, turn, turnOf, told, lending, withImage, forgeOf, setImage, holdOf, lendOf, ofOpened, askOf, pokeOf, toldPushed, ofPush, toldBuilt, ofBuild, alterOf, above, withinOf, fitsOf, doneOf, commandOf, numbersIn, shownOf}
+
+pub pushed-leaves : (b : Builder) (p : Pushed) (s : Record) (w : List ℕ) → turnOf (toldPushed p s) w ≡ ofPush s (ofPushed b p w)
+pushed-leaves b (pushed.Accepted c) s w = refl
+pushed-leaves b (pushed.Refused e) s w = refl
+
+pub built-leaves : (b : Builder) (p : Built) (s : Record) (w : List ℕ) → turnOf (toldBuilt p s) w ≡ ofBuild s (ofBuilt b p w)
+built-leaves b (built.Words n) s w = refl
+built-leaves b (built.Refused e) s w = refl
+
+module _ (n : ℕ) (s : Record) where
+  pub image-bad : s .lent < n → setImage n s ≡ told reply.Bad s
+  image-bad h = simp (lt-ltb (s .lent) n h)
+
+  pub image-ok : n ≤ s .lent → setImage n s ≡ told reply.Done (withImage s n)
+  image-ok h = simp (le-ltb (s .lent) n h)
+
+module _ (k : ℕ) (r : Arguments) (s : Record) where
+  pub hold-forge : k ≡ 0 → holdOf k r s ≡ forgeOf r s
+  unfolding holdOf
+  hold-forge e = simp (eq-eqb k 0 e)
+
+  pub hold-image : (k ≡ 0 → ⊥) → holdOf k r s ≡ setImage (r .a) s
+  unfolding holdOf
+  hold-image e = simp (ne-eqb k 0 e)
+
+module _ (n x : ℕ) (s : Record) (w : List ℕ) where
+  pub lend-bad : length w < n → lendOf n x s w ≡ turn bad s w
+  unfolding lendOf
+  lend-bad h = simp (lt-ltb (length w) n h)
+
+  pub lend-ok : n ≤ length w → lendOf n x s w ≡ turn (answers done) (lending n) (replicate n x ++ drop n w)
+  unfolding lendOf
+  lend-ok h = simp (le-ltb (length w) n h)
+
+  pub poke-ok : n < length w → pokeOf n x s w ≡ turn (answers done) s (set w n x)
+  unfolding pokeOf
+  poke-ok h = simp (lt-ltb n (length w) h)
+
+  pub poke-bad : length w ≤ n → pokeOf n x s w ≡ turn bad s w
+  unfolding pokeOf
+  poke-bad h = simp (le-ltb n (length w) h)
+
+module _ (k a : ℕ) (i : List ℕ) where
+  pub ask-open : k ≡ 2 → askOf k a i ≡ answers (ofOpened (openOf i))
+  unfolding askOf
+  ask-open e = simp (eq-eqb k 2 e)
+
+  pub ask-select : (k ≡ 2 → ⊥) → askOf k a i ≡ answers (selectOf i a)
+  unfolding askOf
+  ask-select e = simp (ne-eqb k 2 e)
+
+module _ (k : ℕ) (s : Record) (w : List ℕ) where
+  pub shown-words : k ≡ 4 → shownOf k s w ≡ take (s .lent) w
+  unfolding shownOf
+  shown-words e = simp (eq-eqb k 4 e)
+
+  pub shown-builder : (k ≡ 4 → ⊥) → shownOf k s w ≡ numbersIn s
+  unfolding shownOf
+  shown-builder e = simp (ne-eqb k 4 e)
+
+module _ (r : Arguments) (s : Record) (w : List ℕ) where
+  pub alter-poke : (k : ℕ) → k ≡ 5 → alterOf k r s w ≡ pokeOf (r .a) (r .b) s w
+  unfolding alterOf
+  alter-poke k e = rw e
+
+  pub alter-start : (k : ℕ) → k ≡ 6 → alterOf k r s w ≡ ofPush s (newOf (r .a) (r .b) w)
+  unfolding alterOf
+  alter-start k e = rw e
+
+  pub alter-reading : (k : ℕ) → k ≡ 7 → alterOf k r s w ≡ ofPush s (pushOf (s .builder) (r .a) w)
+  unfolding alterOf
+  alter-reading k e = rw e
+
+  pub alter-finish : (k : ℕ) → (k ≡ 5 → ⊥) → (k ≡ 6 → ⊥) → (k ≡ 7 → ⊥) → alterOf k r s w ≡ ofBuild s (buildOf (s .builder) (eqb (r .a) 1) w)
+  unfolding alterOf
+  alter-finish k e f g = simp (ne-eqb k 5 e, ne-eqb k 6 f, ne-eqb k 7 g)
+
+  module _ (k : ℕ) where
+    pub within-bad : length w < s .lent → withinOf k r s w ≡ turn bad s w
+    unfolding withinOf
+    within-bad h = simp (lt-ltb (length w) (s .lent) h)
+
+    pub within-ok : s .lent ≤ length w → withinOf k r s w ≡ above (drop (s .lent) w) (alterOf k r s (take (s .lent) w))
+    unfolding withinOf
+    within-ok h = simp (le-ltb (length w) (s .lent) h)
+
+    pub done-hold : k < 2 → doneOf k r s w ≡ turnOf (holdOf k r s) w
+    unfolding doneOf
+    done-hold h = simp (lt-ltb k 2 h)
+
+    pub done-ask : 2 ≤ k → k < 4 → doneOf k r s w ≡ turn (askOf k (r .a) (take (s .image) w)) s w
+    unfolding doneOf
+    done-ask h i = simp (le-ltb k 2 h, lt-ltb k 4 i)
+
+    pub done-lend : k ≡ 4 → doneOf k r s w ≡ lendOf (r .a) (r .b) s w
+    unfolding doneOf
+    done-lend e = rw e
+
+    pub done-within : 4 ≤ k → (k ≡ 4 → ⊥) → doneOf k r s w ≡ withinOf k r s w
+    unfolding doneOf
+    done-within h e = simp (le-ltb k 2 (omega arith), le-ltb k 4 h, ne-eqb k 4 e)
+
+    pub command-unknown : 8 < k → commandOf k r s w ≡ turn unknown s w
+    unfolding commandOf
+    command-unknown h = simp (lt-ltb 8 k h)
+
+    pub command-done : k ≤ 8 → fitsOf k r ≡ true → commandOf k r s w ≡ doneOf k r s w
+    unfolding commandOf
+    command-done h e = simp (le-ltb 8 k h, e)
+
+    pub command-bad : k ≤ 8 → fitsOf k r ≡ false → commandOf k r s w ≡ turn bad s w
+    unfolding commandOf
+    command-bad h e = simp (le-ltb 8 k h, e)
+
+module _ (k : ℕ) (r : Arguments) where
+  pub fits-forge : k ≡ 0 → fitsOf k r ≡ eqb (r .n) 4
+  unfolding fitsOf
+  fits-forge e = rw e
+
+  pub fits-open : k ≡ 2 → fitsOf k r ≡ eqb (r .n) 0
+  unfolding fitsOf
+  fits-open e = rw e
+
+  fits-by : (j : ℕ) → k ≡ j → fitsOf j r ≡ eqb (r .n) 1 → fitsOf k r ≡ eqb (r .n) 1
+  fits-by j e f = rw e f
+
+  pub fits-one : (k ≡ 1) ⊎ ((k ≡ 3) ⊎ (k ≡ 7)) → fitsOf k r ≡ eqb (r .n) 1
+  unfolding fitsOf
+  fits-one o = ⊎-elim (λ e. fits-by 1 e refl) (λ p. ⊎-elim (λ e. fits-by 3 e refl) (λ e. fits-by 7 e refl) p) o
+
+  pub fits-finish : k ≡ 8 → r .n ≡ 1 → fitsOf k r ≡ ltb (r .a) 2
+  unfolding fitsOf
+  fits-finish e f = rw e (simp (eq-eqb (r .n) 1 f))
+
+  pub fits-unfinished : k ≡ 8 → (r .n ≡ 1 → ⊥) → fitsOf k r ≡ eqb (r .n) 1
+  unfolding fitsOf
+  fits-unfinished e f = rw e (simp (ne-eqb (r .n) 1 f))
+
+  pub fits-two : (k ≡ 0 → ⊥) → (k ≡ 2 → ⊥) → ((k ≡ 1) ⊎ ((k ≡ 3) ⊎ (k ≡ 7)) → ⊥) → (k ≡ 8 → ⊥) → fitsOf k r ≡ eqb (r .n) 2
+  unfolding fitsOf
+  fits-two a b o d =
+      simp
+      (ne-eqb k 0 a, ne-eqb k 2 b, ne-eqb k 1 (λ e. o (inl e)), ne-eqb k 3 (λ e. o (inr (inl e))), ne-eqb k 7 (λ e. o (inr (inr e))), ne-eqb k 8 d)
