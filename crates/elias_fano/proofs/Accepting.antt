@@ -8,8 +8,9 @@ use borrow.Author.Tests.{eqb-true, eqb-false}
 use lib.Dec.{eqb}
 use lib.ListN.{length, getD, take, drop, length-drop, take-append-drop}
 use lib.Seq.{length-take-le, take-take, drop-drop, take-at}
+use Rattle.broadword.specs.Bits.{count}
 use Rattle.broadword.specs.Fields.{flag}
-use Rattle.bit_words.specs.Vector.{wordsFor, numberWords, invalid}
+use Rattle.bit_words.specs.Vector.{bitOver, wordsFor, numberWords, invalid}
 use Rattle.bit_words.proofs.Runs.{Fit}
 use Rattle.darray.specs.Index.{indexWords}
 use Rattle.darray.specs.Positions.{positions}
@@ -18,14 +19,14 @@ use Rattle.darray.proofs.Matching.{same-refl}
 use Rattle.elias_fano_words.specs.Sizes.{lowLen, highLen}
 use Rattle.elias_fano_words.specs.Image.{lowNumber, spilled, highWords, lowWords, highPositions, image}
 use Rattle.elias_fano_words.specs.Times.{rising, bitWords, timesIn, holds}
-use Rattle.elias_fano_words.proofs.Decode.{times-of, length-high}
+use Rattle.elias_fano_words.proofs.Decode.{times-of, length-high, count-high}
 use Rattle.elias_fano_words.proofs.Holds.{fit-held, length-held}
 use Rattle.elias_fano_words.proofs.Truth.{true-and}
 use Rattle.elias_fano_words.proofs.Valid.{valid-high}
 use Rattle.elias_fano.specs.Accept.{fit, universe, declared, pushed, ranked, times, accepted, indexLen}
 use Rattle.elias_fano.specs.Opening.{highOf, onesIn, zerosIn, highIn, bitsIn, Headed, Indexes}
 use Rattle.elias_fano.proofs.Images.{Fits, of-fits, is-fit, is-image}
-use Rattle.elias_fano.proofs.Parts.{index-length, ones-many, zeros-many, headed, holds-in, indexes-in}
+use Rattle.elias_fano.proofs.Parts.{index-length, all-bits, ones-are, ones-many, zeros-many, headed, holds-in, indexes-in}
 
 -- what is found of an image
 pub record Found (i : List ℕ) : Type 0 where
@@ -202,3 +203,13 @@ module _ (i : List ℕ) (head : Headed i) (bits : holds (universe i) (declared i
 -- the high words have no padding
 pub valid-part : (i : List ℕ) → Headed i → holds (universe i) (declared i) (pushed i) (bitsIn i) ≡ true → invalid (highIn i) (highOf i) ≡ false
 valid-part i h b = ap (λ (w : List ℕ). invalid w (highOf i)) (high-is i h b) ∙ valid-high (universe i) (declared i) (timesIn (universe i) (declared i) (pushed i) (bitsIn i)) (rises i h b) (few i h b)
+
+-- as many ones stand in them as times were pushed
+pub ones-in : (i : List ℕ) → Headed i → holds (universe i) (declared i) (pushed i) (bitsIn i) ≡ true → pushed i ≡ count (bitOver true (highIn i)) (highOf i)
+ones-in i h b =
+    let T : List ℕ = timesIn (universe i) (declared i) (pushed i) (bitsIn i) in
+    sym (ap (λ (w : List ℕ). count (bitOver true w) (highOf i)) (high-is i h b) ∙ ones-are (highWords (universe i) (declared i) T) (highOf i) ∙ count-high (universe i) (declared i) T (rises i h b) (few i h b) ∙ length-T i h b)
+
+-- and all other bits are zeros
+pub zeros-in : (i : List ℕ) → Headed i → holds (universe i) (declared i) (pushed i) (bitsIn i) ≡ true → highOf i - pushed i ≡ count (bitOver false (highIn i)) (highOf i)
+zeros-in i h b = omega (arith, ones-in i h b, all-bits (highIn i) (highOf i))

@@ -1,55 +1,15 @@
--- What a validation of an index says, and what it takes for both indexes of an image. Assumes nothing.
-use mathlib.Core.Path.{_≡_, refl, sym, ap, _∙_}
+-- What it takes for both indexes of an image. Assumes nothing.
+use mathlib.Core.Path.{_≡_, sym, ap, _∙_}
 use mathlib.Core.List.{List, []}
 use mathlib.Core.Bool.{Bool, true, false, cond}
-use Prim.Native.Nat.{ℕ, _-_, _^_, _<_}
-use native.Mathlib.Omega.{arith}
+use Prim.Native.Nat.{ℕ, _-_}
 use lib.ListN.{take, drop}
-use Rattle.errors.specs.Answer.{value, refused}
-use Rattle.errors.specs.Refusal.{numberOf}
-use Rattle.errors.specs.declared.Refusal.{Refusal}
-use Rattle.broadword.specs.Fields.{flag}
-use Rattle.bit_words.specs.Vector.{invalid}
 use Rattle.darray.specs.Index.{indexWords}
 use Rattle.darray.specs.Pending.{Decides}
 use Rattle.darray.specs.Positions.{positions}
-use Rattle.darray.specs.Queries.{same, ofValidated, validateOf}
-use Rattle.darray.specs.declared.inner.Validated.{Validated}
-use Rattle.darray.specs.declared.inner.Validated.the-variants as validated
-use Rattle.darray.proofs.Cases.{validate-ok}
-use Rattle.darray.proofs.Matching.{same-refl, same-true}
 use Rattle.elias_fano_words.proofs.Truth.{true-false}
 use Rattle.elias_fano.specs.Accept.{ranked}
 use Rattle.elias_fano.specs.Opening.{highOf, onesIn, zerosIn, highIn, Indexes}
-
-value-inj : (a b : ℕ) → value a ≡ value b → a ≡ b
-value-inj a b e = cc
-
-flag-inj : (a b : Bool) → flag a ≡ flag b → a ≡ b
-flag-inj true true e = refl
-flag-inj true false e = let z : _≡_ {A = ℕ} 1 0 = e in absurd (omega arith)
-flag-inj false true e = let z : _≡_ {A = ℕ} 0 1 = e in absurd (omega arith)
-flag-inj false false e = refl
-
-refused-value : (a b : ℕ) → refused a ≡ value b → ⊥
-refused-value a b e = let z : _≡_ {A = ℕ} 0 1 = cc in omega arith
-
-module _ (ws : List ℕ) (len : ℕ) (b : Bool) (index : List ℕ) (ok : invalid ws len ≡ false) (few : len < 2 ^ 63) (r : Validated) (er : ofValidated r ≡ validateOf ws len b index) where
-  abbrev I : List ℕ
-  I = indexWords (positions b ws len)
-
-  pub is-same : (x : Bool) → r ≡ validated.Is x → Decides x (index ≡ I)
-  is-same x e =
-      let s : x ≡ same index I = flag-inj x (same index I) (value-inj (flag x) (flag (same index I)) (sym (ap ofValidated e) ∙ er ∙ validate-ok ws len b index ok few)) in
-      record {
-        yes = λ (t : x ≡ true). same-true index I (sym s ∙ t);
-        no = λ (t : x ≡ false) (q : index ≡ I). true-false (sym (ap (same index) (sym q) ∙ same-refl index) ∙ sym s ∙ t);
-      }
-
-  pub not-refused : (k : Refusal) → r ≡ validated.Refused k → ⊥
-  not-refused k e = refused-value (numberOf k) (flag (same index I)) (sym (ap ofValidated e) ∙ er ∙ validate-ok ws len b index ok few)
-
--- ---- both indexes of an image
 
 module _ (i high ones zeros : List ℕ) (len : ℕ)
     (eh : high ≡ highIn i) (el : len ≡ highOf i) (eo : ones ≡ take (zerosIn i - onesIn i) (drop (onesIn i) i)) (ez : zeros ≡ drop (zerosIn i) i) where

@@ -33,10 +33,10 @@ unfolding blocks lanes laneWords
 index-length P = length-index P ∙ ap (λ (x : ℕ). blocks P + laneWords P + x) (sym (length-overflow P (blocks P)))
 
 -- ones and zeros are all bits
-both : (ws : List ℕ) (n : ℕ) → count (bitOver true ws) n + count (bitOver false ws) n ≡ n
+pub all-bits : (ws : List ℕ) (n : ℕ) → count (bitOver true ws) n + count (bitOver false ws) n ≡ n
 unfolding count bitOver
-both ws zero = refl
-both ws (suc n) = let ih = both ws n in let h = bitAt-le ws n in omega arith
+all-bits ws zero = refl
+all-bits ws (suc n) = let ih = all-bits ws n in let h = bitAt-le ws n in omega arith
 
 pub ones-are : (ws : List ℕ) (n : ℕ) → count (bitOver true ws) n ≡ count (bitAt ws) n
 unfolding bitOver
@@ -49,7 +49,7 @@ module _ (u n : ℕ) (T : List ℕ) (r : rising u 0 T ≡ true) (few : length T 
   pub zeros-many : length (highPositions u n false T) ≡ highLen u n - length T
   zeros-many =
       let a = length-places (bitOver false (highWords u n T)) (bitOver-le false (highWords u n T)) (highLen u n) in
-      let b = both (highWords u n T) (highLen u n) in
+      let b = all-bits (highWords u n T) (highLen u n) in
       let d = ones-are (highWords u n T) (highLen u n) ∙ count-high u n T r few in
       a ∙ omega arith
 

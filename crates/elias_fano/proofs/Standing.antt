@@ -7,7 +7,11 @@ use native.Mathlib.Nat.{le-of-eq}
 use native.Mathlib.Omega.{arith}
 use lib.ListN.{length, take, drop, length-drop, drop-of-length-le}
 use lib.Seq.{length-take-le, take-all}
-use Rattle.bit_words.specs.Vector.{wordsFor, invalid}
+use Rattle.broadword.specs.Bits.{count}
+use Rattle.broadword.proofs.Count.{count-le}
+use Rattle.bit_words.specs.Vector.{bitOver, wordsFor, invalid}
+use Rattle.bit_words.proofs.Runs.{bitOver-le}
+use Rattle.bit_words.proofs.Valid.{valid}
 use Rattle.elias_fano_words.specs.Checks.{Checkable}
 use Rattle.elias_fano_words.specs.Sizes.{lowLen}
 use Rattle.elias_fano_words.specs.Times.{holds}
@@ -16,7 +20,7 @@ use Rattle.elias_fano_words.specs.declared.check.Checked.the-variants as checke
 use Rattle.elias_fano.specs.declared.image.Parts.{Parts}
 use Rattle.elias_fano.specs.Accept.{universe, declared, pushed, ranked, partsBy, partsOf}
 use Rattle.elias_fano.specs.Opening.{highOf, onesIn, zerosIn, highIn, bitsIn, Headed}
-use Rattle.elias_fano.proofs.Accepting.{valid-part}
+use Rattle.elias_fano.proofs.Accepting.{valid-part, ones-in, zeros-in}
 use Rattle.elias_fano.proofs.Limits as limits
 
 -- what a check says
@@ -114,11 +118,35 @@ module _ (i : List ℕ) (p : Parts) (ep : p ≡ partsOf i) (h : Headed i) where
     pub not-held : r ≡ checked.Wrong → false ≡ holds (universe i) (declared i) (pushed i) (bitsIn i)
     not-held e = checked-no _ t (sym e ∙ er) ∙ held-is
 
--- what a validation of the high words demands
-pub indexable : (i : List ℕ) (p : Parts) → p ≡ partsOf i → (h : Headed i) → universe i < 2 ^ 64 → holds (universe i) (declared i) (pushed i) (bitsIn i) ≡ true
-    → (invalid (take (p .«low_at» - 6) (drop 6 i)) (p .«high_len») ≡ false) × (p .«high_len» < 2 ^ 63)
-unfolding partsBy
-indexable i p ep h hu b =
-    let e : p .«high_len» ≡ highOf i = ap (λ (q : Parts). q .«high_len») ep in
-    let l = limits.high-small (universe i) (declared i) (pushed i) hu (h .some) (h .most) (h .few) in
-    (ap₂ invalid (high-part i p ep h) e ∙ valid-part i h b, omega arith)
+-- what is demanded of the high words to compare an index with theirs, or to select through it
+module _ (i : List ℕ) (p : Parts) (ep : p ≡ partsOf i) (h : Headed i) (hu : universe i < 2 ^ 64) (b : holds (universe i) (declared i) (pushed i) (bitsIn i) ≡ true) where
+  high-len-is : p .«high_len» ≡ highOf i
+  unfolding partsBy
+  high-len-is = ap (λ (q : Parts). q .«high_len») ep
+
+  pushed-is : p .«num_pushed» ≡ pushed i
+  unfolding partsBy
+  pushed-is = ap (λ (q : Parts). q .«num_pushed») ep
+
+  abbrev part : List ℕ
+  part = take (p .«low_at» - 6) (drop 6 i)
+
+  count-is : (c : Bool) → count (bitOver c (highIn i)) (highOf i) ≡ count (bitOver c part) (p .«high_len»)
+  count-is c = sym (ap₂ (λ (w : List ℕ) (k : ℕ). count (bitOver c w) k) (high-part i p ep h) high-len-is)
+
+  pub indexable : (invalid part (p .«high_len») ≡ false) × (p .«high_len» < 2 ^ 63)
+  indexable =
+      let l = limits.high-small (universe i) (declared i) (pushed i) hu (h .some) (h .most) (h .few) in
+      (ap₂ invalid (high-part i p ep h) high-len-is ∙ valid-part i h b, omega (arith, high-len-is))
+
+  pub high-room : wordsFor (p .«high_len») ≤ length part
+  high-room = valid part (p .«high_len») (indexable .0) .room
+
+  pub ones-count : p .«num_pushed» ≡ count (bitOver true part) (p .«high_len»)
+  ones-count = pushed-is ∙ ones-in i h b ∙ count-is true
+
+  pub zeros-count : p .«high_len» - p .«num_pushed» ≡ count (bitOver false part) (p .«high_len»)
+  zeros-count = ap₂ (λ (x y : ℕ). x - y) high-len-is pushed-is ∙ zeros-in i h b ∙ count-is false
+
+  pub ones-fit : p .«num_pushed» ≤ p .«high_len»
+  ones-fit = omega (arith, ones-count, count-le (bitOver true part) (p .«high_len») (bitOver-le true part))

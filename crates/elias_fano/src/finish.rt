@@ -2,7 +2,7 @@
 // hold nothing but times in order. The bits stay where they stand; the indexes follow the low words, of as many values as were pushed.
 ghost use mathlib.Core.Path.{_≡_};
 ghost use mathlib.Core.List.{[], _∷_, _++_};
-ghost use Prim.Native.Nat.{_+_, _-_, _/_, _^_, _≤_, _<_};
+ghost use Prim.Native.Nat.{_+_, _-_, _^_, _≤_, _<_};
 ghost use lib.ListN.{length, take, drop};
 ghost use Rattle.broadword.specs.Fields.{flag};
 ghost use Rattle.bit_words.specs.Vector.{wordsFor};
@@ -16,6 +16,7 @@ use bit_words::words_for;
 use darray::inner::Measured;
 use darray::inner::Sizes;
 use darray::inner::measure;
+use darray::inner::total;
 use darray::inner::write_within;
 
 // The sizes of the indexes over the ones and the zeros of so many high bits, where they begin, and where the image ends.
@@ -62,14 +63,6 @@ fn zeros_sizes(words: &[u64], len: usize, rank: bool) -> Sizes
     no_sizes()
 }
 
-// How many words an index of these sizes has.
-fn index_words(s: Sizes) -> usize
-    requires { ⌜ ((s .entries < 2 ^ 32) × (s .lanes < 2 ^ 32) × (s .overflow < 2 ^ 32)) ⌝ }
-    ensures { λ r. ⌜ r ≡ s .entries + (s .lanes + 3) / 4 + s .overflow ⌝ }
-{
-    s.entries + (s.lanes + 3) / 4 + s.overflow
-}
-
 // The indexes over the high bits, the first of which is to begin at the place `at`.
 fn plan_indexes(high: &[u64], len: usize, rank: bool, at: usize) -> Plan
     requires { ⌜ (Measurable (now high) len × (at < 2 ^ 32)) ⌝ }
@@ -77,14 +70,14 @@ fn plan_indexes(high: &[u64], len: usize, rank: bool, at: usize) -> Plan
 {
     let ones = sizes_over(high, len, true);
     let zeros = zeros_sizes(high, len, rank);
-    let zeros_at = at + index_words(ones);
+    let zeros_at = at + total(ones);
     Plan {
         ones,
         zeros,
         high_len: len,
         ones_at: at,
         zeros_at,
-        end: zeros_at + index_words(zeros),
+        end: zeros_at + total(zeros),
     }
 }
 

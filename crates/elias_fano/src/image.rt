@@ -3,18 +3,14 @@ ghost use mathlib.Core.Bool.{true, false, cond};
 ghost use mathlib.Core.Path.{_≡_};
 ghost use Prim.Native.Nat.{_+_, _-_, _^_, _≤_, _<_};
 ghost use lib.ListN.{getD};
-ghost use Rattle.bit_words.specs.Vector.{invalid};
-ghost use Rattle.darray.specs.Index.{indexWords};
 ghost use Rattle.darray.specs.Pending.{Decides};
-ghost use Rattle.darray.specs.Positions.{positions};
 ghost use Rattle.elias_fano_words.specs.Times.{holds};
 ghost use Rattle.elias_fano.specs.Accept.{universe as universeOf, declared, pushed, indexLen, partsBy, partsOf, times, ofOpened, openOf, ofValue, timeOf, selectOf};
 ghost use Rattle.elias_fano.specs.Opening.{Counts, Limits, Complete, Headed, Heads, bitsIn, Indexes, Open, OneAt};
 use bit_words::words_for;
 use broadword::Found;
 use broadword::select_in_byte_table;
-use darray::inner::Validated;
-use darray::inner::validate;
+use darray::inner::is_index;
 use darray::select1;
 use elias_fano_words::check::Checked;
 use elias_fano_words::check::check;
@@ -192,18 +188,7 @@ fn holds_values(image: &[u64], p: Parts) -> bool
     }
 }
 
-// Whether some words are the index over the ones or the zeros of bits that are not invalid.
-fn is_index(words: &[u64], len: usize, over_one: bool, index: &[u64]) -> bool
-    requires { ⌜ ((invalid (now words) len ≡ false) × (len < 2 ^ 63)) ⌝ }
-    ensures { λ r. ⌜ Decides r (now (index .entry) ≡ indexWords (positions «over_one» (now (words .entry)) len)) ⌝ }
-{
-    match validate(words, len, over_one, index) {
-        Validated::Is(b) => b,
-        Validated::Refused(_e) => false,
-    }
-}
-
-// Whether the rest of the image is the indexes of its high bits.
+// Whether the rest of the image is the indexes of its high bits. How many positions each has is known.
 fn has_indexes(image: &[u64], p: Parts) -> bool
     requires { ⌜ ((p ≡ partsOf (now image)) × Headed (now image) × (holds (universeOf (now image)) (declared (now image)) (pushed (now image)) (bitsIn (now image)) ≡ true)) ⌝ }
     ensures { λ r. ⌜ Decides r (Indexes (now (image .entry))) ⌝ }
@@ -211,12 +196,13 @@ fn has_indexes(image: &[u64], p: Parts) -> bool
     let low_at = p.low_at;
     let ones_at = p.ones_at;
     let zeros_at = p.zeros_at;
+    let m = p.num_pushed as usize;
     let high = &image[6..low_at];
-    if !is_index(high, p.high_len, true, &image[ones_at..zeros_at]) {
+    if !is_index(high, p.high_len, true, m, &image[ones_at..zeros_at]) {
         return false;
     }
     if p.rank {
-        return is_index(high, p.high_len, false, &image[zeros_at..]);
+        return is_index(high, p.high_len, false, p.high_len - m, &image[zeros_at..]);
     }
     true
 }

@@ -33,30 +33,39 @@ part-is-index-end : tie.Need-part-is-index-end
 part-is-index-end c = standing.zeros-end _ _ (c .before .before .pre .0) (c .before .before .pre .1)
 
 is-index-requires : tie.Need-is-index-requires
-is-index-requires c κs = let s = c .before .before .before in standing.indexable (s .args .image .now) (s .args .p) (s .pre .0) (s .pre .1) (c .before .before .shared-slice-known .given 0 .fits) (s .pre .2)
+is-index-requires c κs =
+    let s = c .before .before .before in
+    (standing.high-room (s .args .image .now) (s .args .p) (s .pre .0) (s .pre .1) (c .before .before .shared-slice-known .given 0 .fits) (s .pre .2), standing.indexable (s .args .image .now) (s .args .p) (s .pre .0) (s .pre .1) (c .before .before .shared-slice-known .given 0 .fits) (s .pre .2) .1, standing.ones-count (s .args .image .now) (s .args .p) (s .pre .0) (s .pre .1) (c .before .before .shared-slice-known .given 0 .fits) (s .pre .2))
 
 returns : tie.Need-returns
 unfolding partsBy
 returns c = let s = c .before .before .before .before .before in indexing.other-ones (s .args .image .now) _ _ _ _ (standing.high-part (s .args .image .now) (s .args .p) (s .pre .0) (s .pre .1)) (ap (λ (q : Parts). q .«high_len») (s .pre .0)) (standing.ones-part (s .args .image .now) (s .args .p) (s .pre .0) (s .pre .1)) refl _ (c .before .is-index .ensures) (not-true _ (c .if1 .taken))
 
-mul-is-index-2 : tie.Need-mul-is-index-2
-mul-is-index-2 c = let s = c .before .before .before .before .before .before in let e = standing.zeros-end _ _ (s .pre .0) (s .pre .1) in record { fits = omega (arith, s .good) }
-
 sub-is-index-2 : tie.Need-sub-is-index-2
-sub-is-index-2 c = let s = c .before .before .before .before .before .before in standing.zeros-end _ _ (s .pre .0) (s .pre .1)
+sub-is-index-2 c = let s = c .before .before .before .before .before .before .before in standing.ones-fit (s .args .image .now) (s .args .p) (s .pre .0) (s .pre .1) (c .before .before .before .before .before .before .shared-slice-known .given 0 .fits) (s .pre .2)
+
+mul-is-index-2 : tie.Need-mul-is-index-2
+mul-is-index-2 c = let s = c .before .before .before .before .before .before .before in let e = standing.zeros-end _ _ (s .pre .0) (s .pre .1) in record { fits = omega (arith, s .good) }
+
+sub-is-index-3 : tie.Need-sub-is-index-3
+sub-is-index-3 c = let s = c .before .before .before .before .before .before .before in standing.zeros-end _ _ (s .pre .0) (s .pre .1)
 
 part-is-index-start-2 : tie.Need-part-is-index-start-2
-part-is-index-start-2 c = let s = c .before .before .before .before .before .before in standing.zeros-end _ _ (s .pre .0) (s .pre .1)
+part-is-index-start-2 c = let s = c .before .before .before .before .before .before .before in standing.zeros-end _ _ (s .pre .0) (s .pre .1)
 
 part-is-index-end-2 : tie.Need-part-is-index-end-2
 part-is-index-end-2 c = search needs
 
 is-index-requires-2 : tie.Need-is-index-requires-2
-is-index-requires-2 c κs = let s = c .before .before .before .before .before .before .before in standing.indexable (s .args .image .now) (s .args .p) (s .pre .0) (s .pre .1) (c .before .before .before .before .before .before .shared-slice-known .given 0 .fits) (s .pre .2)
+is-index-requires-2 c κs =
+    let s = c .before .before .before .before .before .before .before .before in
+    (standing.high-room (s .args .image .now) (s .args .p) (s .pre .0) (s .pre .1) (c .before .before .before .before .before .before .before .shared-slice-known .given 0 .fits) (s .pre .2), standing.indexable (s .args .image .now) (s .args .p) (s .pre .0) (s .pre .1) (c .before .before .before .before .before .before .before .shared-slice-known .given 0 .fits) (s .pre .2) .1, standing.zeros-count (s .args .image .now) (s .args .p) (s .pre .0) (s .pre .1) (c .before .before .before .before .before .before .before .shared-slice-known .given 0 .fits) (s .pre .2))
 
 returns-2 : tie.Need-returns-2
 unfolding partsBy
-returns-2 c = let s = c .before .before .before .before .before .before .before .before in indexing.then-zeros (s .args .image .now) _ _ _ _ (standing.high-part (s .args .image .now) (s .args .p) (s .pre .0) (s .pre .1)) (ap (λ (q : Parts). q .«high_len») (s .pre .0)) (standing.ones-part (s .args .image .now) (s .args .p) (s .pre .0) (s .pre .1)) (standing.zeros-part (s .args .image .now) (s .args .p) (s .pre .0) (s .pre .1)) _ _ (c .before .before .before .before .is-index .ensures) (not-false _ (c .before .before .before .if1 .left)) (sym (ap (λ (q : Parts). q .rank) (s .pre .0)) ∙ c .before .before .if2 .taken) (c .is-index2 .ensures)
+returns-2 c =
+    let s = c .before .before .before .before .before .before .before .before .before in
+    indexing.then-zeros (s .args .image .now) _ _ _ _ (standing.high-part (s .args .image .now) (s .args .p) (s .pre .0) (s .pre .1)) (ap (λ (q : Parts). q .«high_len») (s .pre .0)) (standing.ones-part (s .args .image .now) (s .args .p) (s .pre .0) (s .pre .1)) (standing.zeros-part (s .args .image .now) (s .args .p) (s .pre .0) (s .pre .1)) _ _ (c .before .before .before .before .before .is-index .ensures) (not-false _ (c .before .before .before .before .if1 .left)) (sym (ap (λ (q : Parts). q .rank) (s .pre .0)) ∙ c .before .before .before .if2 .taken) (c .is-index2 .ensures)
 
 returns-3 : tie.Need-returns-3
 unfolding partsBy
@@ -75,8 +84,9 @@ has-indexes-spec =
     part-is-index-end
     is-index-requires
     returns
-    mul-is-index-2
     sub-is-index-2
+    mul-is-index-2
+    sub-is-index-3
     part-is-index-start-2
     part-is-index-end-2
     is-index-requires-2
