@@ -3,10 +3,8 @@
 // `access`, `get_bits`, `get_word64`, `set_bit` and the pushes take constant time; the ranks and selects take time linear in the words.
 ghost use mathlib.Core.Path.{_≡_};
 ghost use mathlib.Core.Bool.{true, false};
-ghost use Prim.Native.Nat.{_/_, _<_};
 ghost use Rattle.errors.specs.Answer.{leaves};
 ghost use Rattle.broadword.specs.Fields.{flag};
-ghost use Rattle.bit_words.specs.Vector.{invalid};
 ghost use Rattle.bit_vectors.specs.Queries.{ofAltered, ofPushedBits, ofWord, ofBit, ofCount, ofPlace, accessOf, getBitsOf, getWord64Of, rank1Of, numOnesOf, selectBitOf, predecessor1Of, setBitOf, pushBitsOf, fromBitOf};
 use super::Altered;
 use super::Bit;

@@ -5,10 +5,9 @@
 // words that it passes.
 ghost use mathlib.Core.Path.{_≡_};
 ghost use mathlib.Core.Bool.{true, false};
-ghost use Prim.Native.Nat.{_+_, _*_, _/_, _%_, _^_, _≤_, _<_};
+ghost use Prim.Native.Nat.{_*_, _/_, _%_, _^_, _≤_, _<_};
 ghost use lib.ListN.{length, getD};
-ghost use Rattle.broadword.specs.Bits.{bit};
-ghost use Rattle.broadword.specs.Places.{select, Debruijn64};
+ghost use Rattle.broadword.specs.Places.{Debruijn64};
 ghost use Rattle.bit_words.specs.Vector.{bitOver, invalid};
 ghost use Rattle.bit_words.specs.Inner.{Skipped};
 ghost use Rattle.bit_vectors.specs.Inner.{OneAhead, stopAt};

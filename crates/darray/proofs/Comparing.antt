@@ -1,5 +1,5 @@
 -- Words that are compared with the index block by block, before it is known how many overflow positions they are to have. Assumes nothing.
-use mathlib.Core.Path.{_≡_, refl, sym, ap, ap₂, _∙_, subst, subst⁻¹}
+use mathlib.Core.Path.{_≡_, refl, sym, ap, _∙_, subst}
 use mathlib.Core.List.{List}
 use mathlib.Core.Bool.{Bool}
 use Prim.Native.Nat.{ℕ, _+_, _-_, _*_, _/_, _^_, _≤_, _<_, min}
@@ -12,7 +12,7 @@ use Rattle.bit_words.specs.Vector.{bitOver}
 use Rattle.darray.specs.Positions.{positions}
 use Rattle.darray.specs.Index.{blocks, lanes, laneWords, before, indexWords}
 use Rattle.darray.specs.Scan.{Ahead, Inside, Sized, Writable, Comparable, lastInBlock}
-use Rattle.darray.specs.Pending.{Loaded, blockSpill, Comparing, SameWords, lanesAt, overAt}
+use Rattle.darray.specs.Pending.{Loaded, blockSpill, Comparing, SameWords}
 use Rattle.darray.specs.declared.scan.Cursor.{Cursor}
 use Rattle.darray.specs.declared.inner.Sizes.{Sizes}
 use Rattle.darray.proofs.Index as index

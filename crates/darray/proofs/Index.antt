@@ -13,7 +13,7 @@ use lib.ListN.{length, getD, length-append, List·getD-append}
 use lib.Seq.{getD-append-add}
 use Rattle.broadword.specs.Bits.{count}
 use Rattle.broadword.proofs.Count.{count-mono}
-use Rattle.broadword.proofs.Fields.{digit-is, digit-word, word-lt}
+use Rattle.broadword.proofs.Fields.{digit-is, digit-word}
 use Rattle.bit_words.specs.Vector.{bitOver}
 use Rattle.bit_words.proofs.Runs.{bitOver-le}
 use Rattle.darray.specs.Positions.{positions}

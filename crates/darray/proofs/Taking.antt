@@ -6,13 +6,12 @@ use Prim.Native.Nat.{ℕ, suc, _+_, _-_, _*_, _/_, _%_, _^_, _≤_}
 use native.Mathlib.Nat.{lt-of-not-le, le-of-eq, div-add-mod'}
 use native.Mathlib.Decide.{decLe}
 use native.Mathlib.Omega.{arith}
-use lib.Pow.{pow-pos}
 use lib.ListN.{getD}
 use Rattle.broadword.specs.Bits.{bit, count, ones}
 use Rattle.broadword.specs.Places.{select}
 use Rattle.broadword.specs.declared.Found.the-variants.{At, Nothing}
-use Rattle.broadword.proofs.Count.{bit-le, bit-above, count-mono, count-zero}
-use Rattle.broadword.proofs.Find.{selected, select-at, select-none, select-some}
+use Rattle.broadword.proofs.Count.{bit-le, count-mono}
+use Rattle.broadword.proofs.Find.{selected, select-at, select-some}
 use Rattle.bit_words.specs.Vector.{bitOver, wordOver}
 use Rattle.bit_words.proofs.Runs.{Fit, bitOver-word, count-word}
 use Rattle.bit_words.proofs.Search.{rest-low, rest-high}

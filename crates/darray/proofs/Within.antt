@@ -2,23 +2,21 @@
 use mathlib.Core.Path.{_≡_, refl, sym, ap, _∙_}
 use mathlib.Core.List.{List}
 use mathlib.Core.Bool.{Bool, true, false}
-use Prim.Native.Nat.{ℕ, _+_, _-_, _/_, _^_, _≤_, _<_}
+use Prim.Native.Nat.{ℕ, _+_, _-_, _^_, _≤_, _<_}
 use native.Mathlib.Nat.{lt-of-not-le}
 use native.Mathlib.Decide.{decLe}
 use native.Mathlib.Omega.{arith}
 use lib.ListN.{length, take, drop}
 use lib.Seq.{take-add, take-take, drop-at, length-take-le}
 use Rattle.bit_words.specs.Vector.{wordsFor, invalid}
-use Rattle.bit_words.proofs.Valid.{valid}
 use Rattle.darray.specs.Positions.{positions}
-use Rattle.darray.specs.Index.{blocks, overflow, indexWords}
-use Rattle.darray.specs.Scan.{Sized, Writable}
+use Rattle.darray.specs.Index.{blocks, overflow}
+use Rattle.darray.specs.Scan.{Sized}
 use Rattle.darray.specs.Queries.{unmeasured, ofMeasured, measureOf}
 use Rattle.darray.specs.declared.inner.Sizes.{Sizes}
 use Rattle.darray.specs.declared.inner.Measured.the-variants as measured
 use Rattle.darray.proofs.Index as index
 use Rattle.darray.proofs.Cases as cases
-use Rattle.darray.proofs.Building as building
 
 -- a part that lies in the first words
 pub part-same : (n m at : ℕ) (l l′ : List ℕ) → n + m ≤ at → n ≤ length l → n ≤ length l′ → take at l ≡ take at l′ → take m (drop n l) ≡ take m (drop n l′)

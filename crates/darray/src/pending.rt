@@ -2,12 +2,11 @@
 ghost use mathlib.Core.Path.{_≡_};
 ghost use mathlib.Core.Bool.{true, false, cond};
 ghost use Prim.Native.Nat.{ℕ, _+_, _-_, _*_, _/_, _^_, _≤_, _<_};
-ghost use lib.Dec.{leb};
 ghost use lib.ListN.{length, getD, replicate};
 ghost use Rattle.broadword.specs.Bits.{bit};
 ghost use Rattle.broadword.specs.Places.{select, SelectInByte, Debruijn64};
 ghost use Rattle.bit_words.specs.Vector.{bitOver};
-ghost use Rattle.darray.specs.Scan.{Position, Ahead, Inside, Hits, lastInBlock};
+ghost use Rattle.darray.specs.Scan.{Position, Ahead, Inside, lastInBlock};
 ghost use Rattle.darray.specs.Pending.{Sampled, Loadable, Loaded, Rising, blockWide, blockSpill, blockLane, blockLaneWord, put, flushed, Flushable, lanesAt, overAt, emptied, Decides, Reads, Matches, Comparing, Compares};
 use crate::inner::BLOCK_LEN;
 use crate::inner::SUBBLOCK_LEN;

@@ -8,7 +8,6 @@ ghost use lib.ListN.{length, getD};
 ghost use Rattle.broadword.specs.Bits.{count, ones};
 ghost use Rattle.broadword.specs.Places.{SelectInByte};
 ghost use Rattle.bit_words.specs.Vector.{wordsFor, bitOver, wordOver};
-ghost use Rattle.darray.specs.Positions.{positions};
 ghost use Rattle.darray.specs.Scan.{Position, lastInBlock, Ahead, Inside, Ranging, Reaches, Hits, Spans, FullBlocks};
 use crate::inner::BLOCK_LEN;
 use crate::inner::MAX_IN_BLOCK_DISTANCE;

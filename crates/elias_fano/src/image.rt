@@ -1,7 +1,7 @@
 // Reading an image. Every public query first decides whether the image is one that some run writes.
-ghost use mathlib.Core.Bool.{true, false, cond};
+ghost use mathlib.Core.Bool.{true, cond};
 ghost use mathlib.Core.Path.{_≡_};
-ghost use Prim.Native.Nat.{_+_, _-_, _^_, _≤_, _<_};
+ghost use Prim.Native.Nat.{_-_, _^_, _≤_, _<_};
 ghost use lib.ListN.{getD};
 ghost use Rattle.darray.specs.Pending.{Decides};
 ghost use Rattle.elias_fano_words.specs.Times.{holds};

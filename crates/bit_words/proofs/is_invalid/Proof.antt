@@ -4,9 +4,6 @@ use native.Mathlib.Omega.{arith}
 use Rattle.bit_words.proofs.Valid as valid
 use Rattle.bit_words.proofs.is_invalid.Statement.{statement}
 use Rattle.bit_words.proofs.is_invalid.Tie as tie
-use Rattle.bit_words.proofs.is_invalid.Reads as reads
-use Rattle.bit_words.proofs.is_invalid.Lts as lts
-use Rattle.bit_words.proofs.words_for.Reads as words-for-reads
 
 words-for-requires : tie.Need-words-for-requires
 words-for-requires c κs = search needs

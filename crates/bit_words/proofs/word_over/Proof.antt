@@ -1,8 +1,6 @@
 use borrow.Author.Needs.{needs}
 use Rattle.bit_words.proofs.word_over.Statement.{statement}
 use Rattle.bit_words.proofs.word_over.Tie as tie
-use Rattle.bit_words.proofs.word_over.Reads as reads
-use Rattle.bit_words.proofs.word_over.Lts as lts
 
 mul-result : tie.Need-mul-result
 mul-result c = search needs

@@ -1,6 +1,6 @@
 -- `broadword::bit_position` meets its contract: at the top six bits of the product the lent table has its rule.
 -- Assumes nothing.
-use mathlib.Core.Path.{_≡_, ap, _∙_}
+use mathlib.Core.Path.{ap, _∙_}
 use Prim.Native.Nat.{ℕ, _*_, _/_, _%_, _^_}
 use lib.ListN.{getD}
 use borrow.Author.Needs.{needs}

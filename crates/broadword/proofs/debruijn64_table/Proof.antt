@@ -1,8 +1,7 @@
 -- `broadword::debruijn64_table` meets its contract: the table's rule is one test at each of the 64 places, which antt computes.
 -- Assumes nothing.
-use mathlib.Core.Path.{_≡_}
 use mathlib.Core.List.{List, [], _∷_}
-use Prim.Native.Nat.{ℕ, _*_, _/_, _%_, _^_, _<_}
+use Prim.Native.Nat.{ℕ, _*_, _/_, _%_, _^_}
 use lib.ListN.{getD}
 use Rattle.broadword.specs.Places.{Debruijn64}
 use Rattle.broadword.proofs.Table.{each-eq}

@@ -16,8 +16,6 @@ use Rattle.broadword.proofs.Find.{select-none}
 use Rattle.broadword.proofs.select_in_word_by.Proof.Law.{sums-are, k-lt, j, j-lt, no-borrow, place-is, rank-is, rank-le, byte-rank-8, found}
 use Rattle.broadword.proofs.select_in_word_by.Statement.{statement}
 use Rattle.broadword.proofs.select_in_word_by.Tie as tie
-use Rattle.broadword.proofs.select_in_word_by.Reads as reads
-use Rattle.broadword.proofs.select_in_word_by.Lts as lts
 
 -- after the test: k is below the ones of x
 more : (c : tie.Else1) → c .before .before .args .k < ones (c .before .before .args .x) 64

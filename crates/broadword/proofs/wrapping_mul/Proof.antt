@@ -4,8 +4,6 @@ use native.Mathlib.Omega.{arith}
 use Rattle.broadword.proofs.Product.{mul-lt, low-word}
 use Rattle.broadword.proofs.wrapping_mul.Statement.{statement}
 use Rattle.broadword.proofs.wrapping_mul.Tie as tie
-use Rattle.broadword.proofs.wrapping_mul.Reads as reads
-use Rattle.broadword.proofs.wrapping_mul.Lts as lts
 
 mul-lo : tie.Need-mul-lo
 mul-lo c = record { fits = mul-lt 32 32 (omega arith) (omega arith) }

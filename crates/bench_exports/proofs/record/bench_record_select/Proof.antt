@@ -1,7 +1,6 @@
 -- `bench_exports::record::bench_record_select` is safe and ends: what `open` accepts is open. The invariant: `i` is at most the number of questions.
 -- Assumes nothing.
 use borrow.Author.Needs.{needs}
-use mathlib.Core.Path.{_≡_}
 use Prim.Native.Nat.{_≤_, _-_}
 use lib.ListN.{length}
 use Rattle.elias_fano.proofs.Answers as answers

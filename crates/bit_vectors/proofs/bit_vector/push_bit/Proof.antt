@@ -2,7 +2,7 @@
 -- Assumes nothing.
 use borrow.Author.Needs.{needs}
 use mathlib.Core.Path.{ap, _∙_}
-use Prim.Native.Nat.{ℕ, _-_}
+use Prim.Native.Nat.{ℕ}
 use Rattle.bit_vectors.specs.Queries.{pushBitsOf}
 use Rattle.bit_vectors.proofs.bit_vector.push_bit.Statement.{statement}
 use Rattle.bit_vectors.proofs.bit_vector.push_bit.Tie as tie

@@ -2,7 +2,7 @@
 -- Assumes nothing.
 use borrow.Author.Needs.{needs}
 use mathlib.Core.Path.{ap}
-use Prim.Native.Nat.{ℕ, _-_, _/_, _%_}
+use Prim.Native.Nat.{ℕ, _/_, _%_}
 use Rattle.bit_vectors.specs.declared.unary.Unary.{Unary}
 use Rattle.bit_words.proofs.Search.{shifted-rest}
 use lib.ListN.{getD}

@@ -1,5 +1,5 @@
 -- What `select_in_word` computes, on plain numbers: which byte the one stands in, and its place in that byte. Assumes nothing.
-use mathlib.Core.Path.{_≡_, sym, ap, ap₂, _∙_, subst, subst⁻¹}
+use mathlib.Core.Path.{_≡_, sym, ap, ap₂, _∙_, subst⁻¹}
 use Prim.Native.Nat.{ℕ, suc, _+_, _-_, _*_, _/_, _%_, _^_, _≤_, _<_}
 use native.Mathlib.Nat.{le-trans, le-of-eq, lt-of-le-of-lt, lt-of-lt-of-le, mul-comm, mod-eq-of-lt, add-zero, not-le-of-lt, le-step, le-of-suc-le-suc, lt-trans, add-sub-of-le}
 use native.Mathlib.Decide.{decLt}

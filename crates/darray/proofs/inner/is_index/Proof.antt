@@ -1,7 +1,5 @@
 -- `darray::inner::is_index` meets its contract.
 -- Assumes nothing.
-use mathlib.Core.Path.{refl}
-use Prim.Native.Nat.{_^_, _<_}
 use native.Mathlib.Omega.{arith}
 use Rattle.darray.proofs.Comparing as comparing
 use Rattle.darray.proofs.Counts as counts

@@ -1,6 +1,5 @@
 -- `darray::pending::compare` meets its contract.
 -- Assumes nothing.
-use Prim.Native.Nat.{_+_, _*_}
 use native.Mathlib.Omega.{arith}
 use Rattle.darray.specs.Pending.{SameWords}
 use borrow.Author.Needs.{needs}

@@ -2,12 +2,11 @@
 -- Assumes nothing.
 use borrow.Author.Needs.{needs}
 use mathlib.Core.Path.{_≡_, ap, _∙_}
-use Prim.Native.Nat.{ℕ, _+_, _-_, _*_, _≤_, _<_}
+use Prim.Native.Nat.{ℕ, _-_, _*_, _≤_}
 use native.Mathlib.Nat.{le-refl}
 use native.Mathlib.Omega.{arith}
-use lib.ListN.{getD}
 use Rattle.broadword.specs.Bits.{count, ones}
-use Rattle.bit_words.specs.Vector.{bitOver, wordOver}
+use Rattle.bit_words.specs.Vector.{bitOver}
 use Rattle.darray.proofs.Counts as scan
 use Rattle.darray.proofs.scan.advance.Statement.{statement}
 use Rattle.darray.proofs.scan.advance.Tie as tie

@@ -1,6 +1,5 @@
 -- `darray::scan::find` meets its contract: the word at which `seek` stops has the position.
 -- Assumes nothing.
-use borrow.Author.Needs.{needs}
 use Rattle.darray.proofs.Counts as scan
 use Rattle.darray.proofs.scan.find.Statement.{statement}
 use Rattle.darray.proofs.scan.find.Tie as tie

@@ -1,6 +1,5 @@
 -- `darray::scan::find_near` meets its contract: the word at which `advance` stops has the position.
 -- Assumes nothing.
-use borrow.Author.Needs.{needs}
 use Rattle.darray.proofs.Counts as scan
 use Rattle.darray.proofs.scan.find_near.Statement.{statement}
 use Rattle.darray.proofs.scan.find_near.Tie as tie
