@@ -13,17 +13,18 @@ use lib.Seq.{ext-getD, getD-append-add, getD-drop}
 use Rattle.broadword.specs.Bits.{count}
 use Rattle.bit_words.specs.Vector.{bitOver}
 use Rattle.bit_words.proofs.Runs.{bitOver-le}
-use Rattle.darray.specs.Positions.{positions}
-use Rattle.darray.specs.Index.{pos, blocks, size, wide, spill, before, lanes, laneWords, indexWords}
-use Rattle.darray.specs.Scan.{Position, Inside, Sized, Writable}
+use Rattle.darray_positions.specs.Positions.{positions}
+use Rattle.darray_positions.specs.Index.{pos, blocks, size, wide, spill, before, lanes, laneWords, indexWords}
+use Rattle.darray_positions.specs.Scan.{Position, Inside}
+use Rattle.darray.specs.Sizes.{Sized, Writable}
 use Rattle.darray.specs.Pending.{Due, Sampled, Loaded, Rising, blockWide, blockSpill, flushed, Flushable, Matches, lanesAt, overAt}
-use Rattle.darray.specs.declared.scan.Cursor.{Cursor}
+use Rattle.darray_positions.specs.declared.scan.Cursor.{Cursor}
 use Rattle.darray.specs.declared.inner.Sizes.{Sizes}
-use Rattle.darray.proofs.Positions as places
-use Rattle.darray.proofs.Index as index
-use Rattle.darray.proofs.Index.{Holds}
-use Rattle.darray.proofs.Blocks as block
-use Rattle.darray.proofs.Counts as counts
+use Rattle.darray_positions.proofs.Positions as places
+use Rattle.darray_positions.proofs.Index as index
+use Rattle.darray_positions.proofs.Index.{Holds}
+use Rattle.darray_positions.proofs.Blocks as block
+use Rattle.darray_positions.proofs.Counts as counts
 use Rattle.darray.proofs.Flush as flush
 use Rattle.darray.proofs.Flush.{Shows}
 use Rattle.darray.proofs.Matching as matching

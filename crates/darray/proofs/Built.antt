@@ -13,8 +13,8 @@ use Rattle.errors.specs.Answer.{value, refused, Outcome, leaves}
 use Rattle.broadword.specs.Places.{select}
 use Rattle.bit_vectors.specs.Queries.{ofFound}
 use Rattle.bit_words.specs.Vector.{bitOver, invalid}
-use Rattle.darray.specs.Positions.{positions}
-use Rattle.darray.specs.Index.{indexWords}
+use Rattle.darray_positions.specs.Positions.{positions}
+use Rattle.darray_positions.specs.Index.{indexWords}
 use Rattle.darray.specs.Queries.{sizes, unmeasured, measureOf, buildIndexOf, selectBuiltOf}
 use Rattle.darray.proofs.Cases as cases
 

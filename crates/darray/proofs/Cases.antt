@@ -8,13 +8,13 @@ use lib.ListN.{length, drop}
 use Rattle.errors.specs.Answer.{value, refused, leaves}
 use Rattle.broadword.specs.Fields.{flag}
 use Rattle.bit_words.specs.Vector.{invalid}
-use Rattle.darray.specs.Positions.{positions}
-use Rattle.darray.specs.Index.{blocks, lanes, overflow, indexWords}
+use Rattle.darray_positions.specs.Positions.{positions}
+use Rattle.darray_positions.specs.Index.{blocks, lanes, overflow, indexWords}
 use Rattle.darray.specs.Queries.{sizes, unmeasured, ofMeasured, measureOf, buildIndexOf, validateOf, same}
-use Rattle.darray.specs.Scan.{Sized}
+use Rattle.darray.specs.Sizes.{Sized}
 use Rattle.darray.specs.declared.inner.Sizes.{Sizes}
 use Rattle.darray.specs.declared.inner.Measured.the-variants as measured
-use Rattle.darray.proofs.Index.{length-overflow}
+use Rattle.darray_positions.proofs.Index.{length-overflow}
 
 module _ (ws : List ℕ) (len : ℕ) (b : Bool) where
   pub measure-13 : invalid ws len ≡ true → measureOf ws len b ≡ unmeasured 13

@@ -9,15 +9,16 @@ use lib.ListN.{length}
 use Rattle.broadword.specs.Bits.{count}
 use Rattle.broadword.specs.Places.{SelectInByte, Debruijn64}
 use Rattle.bit_words.specs.Vector.{bitOver}
-use Rattle.darray.specs.Positions.{positions}
-use Rattle.darray.specs.Index.{blocks, lanes, laneWords, before, indexWords}
-use Rattle.darray.specs.Scan.{Ahead, Inside, Sized, Writable, Comparable, lastInBlock}
+use Rattle.darray_positions.specs.Positions.{positions}
+use Rattle.darray_positions.specs.Index.{blocks, lanes, laneWords, before, indexWords}
+use Rattle.darray_positions.specs.Scan.{Ahead, Inside, lastInBlock}
+use Rattle.darray.specs.Sizes.{Sized, Writable, Comparable}
 use Rattle.darray.specs.Pending.{Loaded, blockSpill, Comparing, SameWords}
-use Rattle.darray.specs.declared.scan.Cursor.{Cursor}
+use Rattle.darray_positions.specs.declared.scan.Cursor.{Cursor}
 use Rattle.darray.specs.declared.inner.Sizes.{Sizes}
-use Rattle.darray.proofs.Index as index
-use Rattle.darray.proofs.Index.{Holds}
-use Rattle.darray.proofs.Blocks as block
+use Rattle.darray_positions.proofs.Index as index
+use Rattle.darray_positions.proofs.Index.{Holds}
+use Rattle.darray_positions.proofs.Blocks as block
 use Rattle.darray.proofs.Flush as flush
 use Rattle.darray.proofs.Flush.{Shows}
 use Rattle.darray.proofs.Building as building

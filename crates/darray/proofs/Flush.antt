@@ -15,10 +15,10 @@ use lib.ListN.{length, getD, set, length-set}
 use lib.Seq.{getD-set-same, getD-set-other}
 use Rattle.broadword.specs.Fields.{word}
 use Rattle.broadword.proofs.Fields.{word-same}
-use Rattle.darray.specs.Index.{pos, blocks, size, wide, spill, before, entry, lanes, lane, laneWord, laneWords, overflow, indexWords}
+use Rattle.darray_positions.specs.Index.{pos, blocks, size, wide, spill, before, entry, lanes, lane, laneWord, laneWords, overflow, indexWords}
 use Rattle.darray.specs.Pending.{Rising, blockWide, blockSpill, blockEntry, blockLane, blockLaneWord, put, flushed}
-use Rattle.darray.proofs.Index as index
-use Rattle.darray.proofs.Index.{Holds}
+use Rattle.darray_positions.proofs.Index as index
+use Rattle.darray_positions.proofs.Index.{Holds}
 
 -- ---- words at a place
 

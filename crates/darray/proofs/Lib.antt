@@ -1,14 +1,10 @@
-pub mod Blocks
 pub mod Building
 pub mod Built
 pub mod Cases
 pub mod Clear
 pub mod Comparing
-pub mod Counts
 pub mod Flush
-pub mod Index
 pub mod Matching
-pub mod Positions
 pub mod Sampling
 pub mod Signed
 pub mod Taking

@@ -11,11 +11,11 @@ use native.Mathlib.Omega.{arith}
 use borrow.Author.Tests.{eq-eqb, ne-eqb}
 use lib.ListN.{length, getD}
 use lib.Seq.{ext-getD}
-use Rattle.darray.specs.Index.{blocks, size, spill, before, entry, laneWord, laneWords, overflow, indexWords}
+use Rattle.darray_positions.specs.Index.{blocks, size, spill, before, entry, laneWord, laneWords, overflow, indexWords}
 use Rattle.darray.specs.Pending.{Decides, Matches}
 use Rattle.darray.specs.Queries.{same}
-use Rattle.darray.proofs.Index as index
-use Rattle.darray.proofs.Index.{Holds}
+use Rattle.darray_positions.proofs.Index as index
+use Rattle.darray_positions.proofs.Index.{Holds}
 use Rattle.darray.proofs.Flush as flush
 use Rattle.darray.proofs.Flush.{Shows}
 

@@ -8,10 +8,10 @@ use native.Mathlib.Decide.{ℕ-discrete, decLt}
 use native.Mathlib.Omega.{arith}
 use lib.ListN.{length, getD, set, length-set}
 use lib.Seq.{getD-set-same, getD-set-other}
-use Rattle.darray.specs.Scan.{Position, Ahead}
+use Rattle.darray_positions.specs.Scan.{Position, Ahead}
 use Rattle.darray.specs.Pending.{Due, Sampled, Loaded, blockWide}
-use Rattle.darray.specs.declared.scan.Cursor.{Cursor}
-use Rattle.darray.proofs.Blocks.{position-le}
+use Rattle.darray_positions.specs.declared.scan.Cursor.{Cursor}
+use Rattle.darray_positions.proofs.Blocks.{position-le}
 
 pub due-32 : (w : Bool) (i : ℕ) → Due w (32 * i)
 due-32 true i = tt

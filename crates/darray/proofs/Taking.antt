@@ -15,9 +15,9 @@ use Rattle.broadword.proofs.Find.{selected, select-at, select-some}
 use Rattle.bit_words.specs.Vector.{bitOver, wordOver}
 use Rattle.bit_words.proofs.Runs.{Fit, bitOver-word, count-word}
 use Rattle.bit_words.proofs.Search.{rest-low, rest-high}
-use Rattle.darray.specs.Scan.{Position}
+use Rattle.darray_positions.specs.Scan.{Position}
 use Rattle.darray.proofs.Clear.{select-from}
-use Rattle.darray.proofs.Counts as counts
+use Rattle.darray_positions.proofs.Counts as counts
 
 -- the ones left of the word i, which are those of w, are its positions from the number k on
 pub record Left (b : Bool) (ws : List ℕ) (i w k : ℕ) : Type 0 where

@@ -16,12 +16,12 @@ use Rattle.bit_words.specs.Vector.{bitOver, wordsFor}
 use Rattle.bit_words.specs.Inner.{Findable}
 use Rattle.bit_words.proofs.Runs.{bitOver-le, narrow-in}
 use Rattle.bit_words.proofs.Valid.{valid}
-use Rattle.darray.specs.Index.{pos, blocks, size, wide, spill, before, entry, lanes, lane, laneWords}
-use Rattle.darray.specs.Positions.{positions}
+use Rattle.darray_positions.specs.Index.{pos, blocks, size, wide, spill, before, entry, lanes, lane, laneWords}
+use Rattle.darray_positions.specs.Positions.{positions}
 use Rattle.darray.specs.Select.{Indexed, entryOf}
 use Rattle.darray.specs.declared.select.Entry.the-variants.{First, Overflow}
-use Rattle.darray.proofs.Index as laws
-use Rattle.darray.proofs.Positions as found
+use Rattle.darray_positions.proofs.Index as laws
+use Rattle.darray_positions.proofs.Positions as found
 use Rattle.darray.proofs.Signed.{entry-low, entry-high}
 
 module _ (ws : List ℕ) (len : ℕ) (b : Bool) (index : List ℕ) (n : ℕ) (table : List ℕ) (I : Indexed ws len b index n table) where

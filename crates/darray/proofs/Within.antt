@@ -9,13 +9,13 @@ use native.Mathlib.Omega.{arith}
 use lib.ListN.{length, take, drop}
 use lib.Seq.{take-add, take-take, drop-at, length-take-le}
 use Rattle.bit_words.specs.Vector.{wordsFor, invalid}
-use Rattle.darray.specs.Positions.{positions}
-use Rattle.darray.specs.Index.{blocks, overflow}
-use Rattle.darray.specs.Scan.{Sized}
+use Rattle.darray_positions.specs.Positions.{positions}
+use Rattle.darray_positions.specs.Index.{blocks, overflow}
+use Rattle.darray.specs.Sizes.{Sized}
 use Rattle.darray.specs.Queries.{unmeasured, ofMeasured, measureOf}
 use Rattle.darray.specs.declared.inner.Sizes.{Sizes}
 use Rattle.darray.specs.declared.inner.Measured.the-variants as measured
-use Rattle.darray.proofs.Index as index
+use Rattle.darray_positions.proofs.Index as index
 use Rattle.darray.proofs.Cases as cases
 
 -- a part that lies in the first words

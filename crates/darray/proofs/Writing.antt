@@ -10,14 +10,15 @@ use lib.Seq.{take-set-le, drop-set-add}
 use Rattle.broadword.specs.Bits.{count}
 use Rattle.broadword.specs.Places.{SelectInByte, Debruijn64}
 use Rattle.bit_words.specs.Vector.{bitOver}
-use Rattle.darray.specs.Positions.{positions}
-use Rattle.darray.specs.Index.{indexWords}
-use Rattle.darray.specs.Scan.{Ahead, Inside, Writable, lastInBlock}
+use Rattle.darray_positions.specs.Positions.{positions}
+use Rattle.darray_positions.specs.Index.{indexWords}
+use Rattle.darray_positions.specs.Scan.{Ahead, Inside, lastInBlock}
+use Rattle.darray.specs.Sizes.{Writable}
 use Rattle.darray.specs.Pending.{Loaded, Rising, blockSpill, put, flushed, Flushable, lanesAt, overAt, blockEntry, blockLaneWord}
-use Rattle.darray.specs.declared.scan.Cursor.{Cursor}
+use Rattle.darray_positions.specs.declared.scan.Cursor.{Cursor}
 use Rattle.darray.specs.declared.inner.Sizes.{Sizes}
-use Rattle.darray.proofs.Index as index
-use Rattle.darray.proofs.Blocks as block
+use Rattle.darray_positions.proofs.Index as index
+use Rattle.darray_positions.proofs.Blocks as block
 use Rattle.darray.proofs.Flush.{Shows}
 use Rattle.darray.proofs.Building as building
 use Rattle.darray.proofs.Building.{BlocksWritten}

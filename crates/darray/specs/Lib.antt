@@ -1,7 +1,5 @@
-pub mod Positions
-pub mod Index
-pub mod Scan
 pub mod Pending
 pub mod Queries
 pub mod Rows
 pub mod Select
+pub mod Sizes

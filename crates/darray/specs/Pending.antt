@@ -8,9 +8,9 @@ use lib.Dec.{leb, ltb}
 use lib.ListN.{length, getD, set}
 use Rattle.broadword.specs.Fields.{word}
 use Rattle.broadword.specs.Places.{SelectInByte, Debruijn64}
-use Rattle.darray.specs.Scan.{Position, Ahead, Inside, Hits, lastInBlock}
-use Rattle.darray.specs.declared.scan.Cursor.{Cursor}
-use Rattle.darray.specs.declared.scan.Hit.{Hit}
+use Rattle.darray_positions.specs.Scan.{Position, Ahead, Inside, Hits, lastInBlock}
+use Rattle.darray_positions.specs.declared.scan.Cursor.{Cursor}
+use Rattle.darray_positions.specs.declared.scan.Hit.{Hit}
 use Rattle.darray.specs.declared.pending.Pending.{Pending}
 use Rattle.darray.specs.declared.pending.Compared.{Compared}
 use Rattle.darray.specs.declared.pending.Compared.the-variants as compared

@@ -11,8 +11,8 @@ use Rattle.broadword.specs.Fields.{flag}
 use Rattle.broadword.specs.Places.{select}
 use Rattle.bit_vectors.specs.Queries.{ofFound}
 use Rattle.bit_words.specs.Vector.{bitOver, invalid}
-use Rattle.darray.specs.Positions.{positions}
-use Rattle.darray.specs.Index.{blocks, lanes, overflow, indexWords}
+use Rattle.darray_positions.specs.Positions.{positions}
+use Rattle.darray_positions.specs.Index.{blocks, lanes, overflow, indexWords}
 use Rattle.darray.specs.declared.inner.Measured.{Measured}
 use Rattle.darray.specs.declared.inner.Measured.the-variants as measured
 use Rattle.darray.specs.declared.inner.Built.{Built}

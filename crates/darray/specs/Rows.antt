@@ -6,8 +6,8 @@ use Prim.Native.Nat.{ℕ, _^_, _-_, _*_}
 use Rattle.broadword.specs.Bits.{bit, count}
 use Rattle.broadword.specs.Fields.{word}
 use Rattle.bit_words.specs.Vector.{bitAt, bitOver}
-use Rattle.darray.specs.Positions.{places, positions}
-use Rattle.darray.specs.Index.{table, pos, blocks, size, wide, spill, before, entry, lanes, lane, laneWord, laneWords, overflow, indexWords}
+use Rattle.darray_positions.specs.Positions.{places, positions}
+use Rattle.darray_positions.specs.Index.{table, pos, blocks, size, wide, spill, before, entry, lanes, lane, laneWord, laneWords, overflow, indexWords}
 
 pub record Row : Type 0 where
   pub positions : List ℕ

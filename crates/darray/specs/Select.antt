@@ -8,8 +8,8 @@ use lib.IntN.{ℤ, pos, negsuc}
 use lib.ListN.{length}
 use Rattle.broadword.specs.Places.{SelectInByte}
 use Rattle.bit_words.specs.Vector.{invalid}
-use Rattle.darray.specs.Index.{indexWords}
-use Rattle.darray.specs.Positions.{positions}
+use Rattle.darray_positions.specs.Index.{indexWords}
+use Rattle.darray_positions.specs.Positions.{positions}
 use Rattle.darray.specs.declared.select.Entry.{Entry}
 use Rattle.darray.specs.declared.select.Entry.the-variants.{First, Overflow}
 

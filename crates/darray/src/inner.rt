@@ -15,39 +15,33 @@ ghost use Rattle.errors.specs.Answer.{leaves};
 ghost use Rattle.broadword.specs.Bits.{count};
 ghost use Rattle.broadword.specs.Places.{SelectInByte, Debruijn64};
 ghost use Rattle.bit_words.specs.Vector.{wordsFor, bitOver};
-ghost use Rattle.darray.specs.Positions.{positions};
-ghost use Rattle.darray.specs.Index.{before, indexWords};
+ghost use Rattle.darray_positions.specs.Positions.{positions};
+ghost use Rattle.darray_positions.specs.Index.{before, indexWords};
 ghost use Rattle.darray.specs.Pending.{Decides};
 ghost use Rattle.darray.specs.Queries.{ofMeasured, ofBuiltIndex, ofValidated, measureOf, buildIndexOf, validateOf};
-ghost use Rattle.darray.specs.Scan.{FullBlocks, Sized, Writable, Comparable};
+ghost use Rattle.darray_positions.specs.Scan.{FullBlocks};
+ghost use Rattle.darray.specs.Sizes.{Sized, Writable, Comparable};
 use crate::pending::Compared;
 use crate::pending::compare;
 use crate::pending::empty;
 use crate::pending::flush;
 use crate::pending::load;
 use crate::pending::spill;
-use crate::scan::Cursor;
-use crate::scan::Full;
-use crate::scan::block_size;
-use crate::scan::count_positions;
-use crate::scan::ends;
-use crate::scan::full_blocks;
-use crate::scan::spilled;
-use crate::scan::tail_positions;
 use bit_words::is_invalid;
 use bit_words::words_for;
 use broadword::debruijn64_table;
 use broadword::select_in_byte_table;
+use darray_positions::scan::BLOCK_LEN;
+use darray_positions::scan::Cursor;
+use darray_positions::scan::Full;
+use darray_positions::scan::SUBBLOCK_LEN;
+use darray_positions::scan::block_size;
+use darray_positions::scan::count_positions;
+use darray_positions::scan::ends;
+use darray_positions::scan::full_blocks;
+use darray_positions::scan::spilled;
+use darray_positions::scan::tail_positions;
 use errors::Refusal;
-
-// Positions in a block.
-pub const BLOCK_LEN: usize = 1024;
-
-// Positions to a distance.
-pub const SUBBLOCK_LEN: usize = 32;
-
-// A block whose last position lies this far from its first overflows.
-pub const MAX_IN_BLOCK_DISTANCE: u64 = 1 << 16;
 
 // No memory holds as many bits.
 const MAX_LEN: usize = 1 << 63;

@@ -12,7 +12,6 @@ ghost use Rattle.darray.specs.Select.{Indexed};
 
 pub mod inner;
 mod pending;
-mod scan;
 pub mod select;
 
 use bit_vectors::Bit;

@@ -6,22 +6,22 @@ ghost use lib.ListN.{length, getD, replicate};
 ghost use Rattle.broadword.specs.Bits.{bit};
 ghost use Rattle.broadword.specs.Places.{select, SelectInByte, Debruijn64};
 ghost use Rattle.bit_words.specs.Vector.{bitOver};
-ghost use Rattle.darray.specs.Scan.{Position, Ahead, Inside, lastInBlock};
+ghost use Rattle.darray_positions.specs.Scan.{Position, Ahead, Inside, lastInBlock};
 ghost use Rattle.darray.specs.Pending.{Sampled, Loadable, Loaded, Rising, blockWide, blockSpill, blockLane, blockLaneWord, put, flushed, Flushable, lanesAt, overAt, emptied, Decides, Reads, Matches, Comparing, Compares};
-use crate::inner::BLOCK_LEN;
-use crate::inner::SUBBLOCK_LEN;
 use crate::inner::Sizes;
-use crate::scan::Cursor;
-use crate::scan::Hit;
-use crate::scan::block_size;
-use crate::scan::cursor_at;
-use crate::scan::find_near;
-use crate::scan::is_far;
-use crate::scan::is_wide;
 use bit_words::WORD_LEN;
 use bit_words::word_over;
 use broadword::Found;
 use broadword::lsb_by;
+use darray_positions::scan::BLOCK_LEN;
+use darray_positions::scan::Cursor;
+use darray_positions::scan::Hit;
+use darray_positions::scan::SUBBLOCK_LEN;
+use darray_positions::scan::block_size;
+use darray_positions::scan::cursor_at;
+use darray_positions::scan::find_near;
+use darray_positions::scan::is_far;
+use darray_positions::scan::is_wide;
 
 // Positions, and how many of them are pending.
 pub struct Pending {

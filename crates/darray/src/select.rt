@@ -7,11 +7,11 @@ ghost use lib.ListN.{length, getD};
 ghost use Rattle.broadword.specs.Places.{select as selectBit};
 ghost use Rattle.bit_words.specs.Vector.{bitOver};
 ghost use Rattle.darray.specs.Select.{Indexed, signedOf, entryOf};
-use crate::inner::BLOCK_LEN;
-use crate::inner::SUBBLOCK_LEN;
 use bit_words::find_from;
 use bit_words::words_for;
 use broadword::Found;
+use darray_positions::scan::BLOCK_LEN;
+use darray_positions::scan::SUBBLOCK_LEN;
 
 // A block's entry: its first position, or where its overflow positions begin.
 pub enum Entry {

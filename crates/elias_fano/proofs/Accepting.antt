@@ -12,8 +12,8 @@ use Rattle.broadword.specs.Bits.{count}
 use Rattle.broadword.specs.Fields.{flag}
 use Rattle.bit_words.specs.Vector.{bitOver, wordsFor, numberWords, invalid}
 use Rattle.bit_words.proofs.Runs.{Fit}
-use Rattle.darray.specs.Index.{indexWords}
-use Rattle.darray.specs.Positions.{positions}
+use Rattle.darray_positions.specs.Index.{indexWords}
+use Rattle.darray_positions.specs.Positions.{positions}
 use Rattle.darray.specs.Queries.{same}
 use Rattle.darray.proofs.Matching.{same-refl}
 use Rattle.elias_fano_words.specs.Sizes.{lowLen, highLen}

@@ -12,11 +12,11 @@ use lib.ListN.{length, take, drop, length-append, length-drop, take-append-drop}
 use lib.Seq.{length-take-le, take-take, take-add, take-at, drop-at, drop-drop}
 use Rattle.broadword.specs.Fields.{flag}
 use Rattle.bit_words.specs.Vector.{wordsFor, numberWords, invalid}
-use Rattle.darray.specs.Index.{blocks, lanes, laneWords, overflow, table, indexWords}
-use Rattle.darray.specs.Positions.{positions}
-use Rattle.darray.specs.Scan.{Sized, Writable}
+use Rattle.darray_positions.specs.Index.{blocks, lanes, laneWords, overflow, table, indexWords}
+use Rattle.darray_positions.specs.Positions.{positions}
+use Rattle.darray.specs.Sizes.{Sized, Writable}
 use Rattle.darray.specs.declared.inner.Sizes.{Sizes}
-use Rattle.darray.proofs.Index.{length-overflow}
+use Rattle.darray_positions.proofs.Index.{length-overflow}
 use Rattle.darray.proofs.Within.{part-same}
 use Rattle.elias_fano_words.specs.Sizes.{lowLen, highLen, startLen}
 use Rattle.elias_fano_words.specs.Image.{lowNumber, spilled, highWords, lowWords, highPositions, image}

@@ -9,7 +9,7 @@ use lib.Dec.{eqb, leb, ltb}
 use lib.ListN.{length, drop}
 use Rattle.broadword.specs.Fields.{flag}
 use Rattle.bit_words.specs.Vector.{wordsFor, numberWords}
-use Rattle.darray.specs.Index.{indexWords}
+use Rattle.darray_positions.specs.Index.{indexWords}
 use Rattle.darray.specs.Queries.{same}
 use Rattle.elias_fano_words.specs.Sizes.{lowLen}
 use Rattle.elias_fano_words.specs.Image.{highWords, lowWords, highPositions, lowNumber, image}

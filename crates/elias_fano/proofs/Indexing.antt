@@ -4,9 +4,9 @@ use mathlib.Core.List.{List, []}
 use mathlib.Core.Bool.{Bool, true, false, cond}
 use Prim.Native.Nat.{ℕ, _-_}
 use lib.ListN.{take, drop}
-use Rattle.darray.specs.Index.{indexWords}
+use Rattle.darray_positions.specs.Index.{indexWords}
 use Rattle.darray.specs.Pending.{Decides}
-use Rattle.darray.specs.Positions.{positions}
+use Rattle.darray_positions.specs.Positions.{positions}
 use Rattle.elias_fano_words.proofs.Truth.{true-false}
 use Rattle.elias_fano.specs.Accept.{ranked}
 use Rattle.elias_fano.specs.Opening.{highOf, onesIn, zerosIn, highIn, Indexes}

@@ -13,10 +13,10 @@ use Rattle.broadword.proofs.Count.{count-same}
 use Rattle.bit_words.specs.Vector.{bitAt, bitOver, wordsFor, numberWords}
 use Rattle.bit_words.proofs.Overwrite.{length-numberWords}
 use Rattle.bit_words.proofs.Runs.{bitAt-le, bitOver-le}
-use Rattle.darray.specs.Index.{blocks, lanes, laneWords, indexWords}
-use Rattle.darray.specs.Positions.{positions}
-use Rattle.darray.proofs.Index.{length-overflow, length-index}
-use Rattle.darray.proofs.Positions.{length-places}
+use Rattle.darray_positions.specs.Index.{blocks, lanes, laneWords, indexWords}
+use Rattle.darray_positions.specs.Positions.{positions}
+use Rattle.darray_positions.proofs.Index.{length-overflow, length-index}
+use Rattle.darray_positions.proofs.Positions.{length-places}
 use Rattle.elias_fano_words.specs.Sizes.{lowLen, highLen}
 use Rattle.elias_fano_words.specs.Image.{lowNumber, spilled, highWords, lowWords, highPositions, image}
 use Rattle.elias_fano_words.specs.Times.{rising, bitWords, holds}

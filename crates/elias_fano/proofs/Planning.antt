@@ -12,18 +12,18 @@ use Rattle.errors.specs.declared.Refusal.{Refusal}
 use Rattle.broadword.specs.Bits.{count}
 use Rattle.bit_words.specs.Vector.{bitOver}
 use Rattle.bit_words.proofs.Runs.{bitOver-le}
-use Rattle.darray.specs.Index.{blocks, lanes, laneWords, before, overflow, table, indexWords}
-use Rattle.darray.specs.Positions.{positions}
+use Rattle.darray_positions.specs.Index.{blocks, lanes, laneWords, before, overflow, table, indexWords}
+use Rattle.darray_positions.specs.Positions.{positions}
 use Rattle.darray.specs.Queries.{ofMeasured, measureOf}
-use Rattle.darray.specs.Scan.{Sized, Writable}
+use Rattle.darray.specs.Sizes.{Sized, Writable}
 use Rattle.darray.specs.declared.inner.Sizes.{Sizes}
 use Rattle.darray.specs.declared.inner.Measured.{Measured}
 use Rattle.darray.specs.declared.inner.Measured.the-variants as measured
 use Rattle.darray.proofs.Building as building
 use Rattle.darray.proofs.Built as built
-use Rattle.darray.proofs.Counts.{count-few}
-use Rattle.darray.proofs.Index.{before-le}
-use Rattle.darray.proofs.Positions.{length-places}
+use Rattle.darray_positions.proofs.Counts.{count-few}
+use Rattle.darray_positions.proofs.Index.{before-le}
+use Rattle.darray_positions.proofs.Positions.{length-places}
 use Rattle.darray.proofs.Within.{measured-sized}
 use Rattle.elias_fano.specs.Finishing.{Measurable, zerosOf, onesWords, zerosWords, Planned}
 

@@ -16,10 +16,10 @@ use Rattle.broadword.specs.declared.Found.{Found}
 use Rattle.broadword.specs.declared.Found.the-variants.{At, Nothing}
 use Rattle.bit_words.specs.Vector.{bitAt, bitOver, wordsFor, numberWords}
 use Rattle.bit_words.proofs.Overwrite.{length-numberWords}
-use Rattle.darray.specs.Index.{indexWords}
-use Rattle.darray.specs.Positions.{positions}
+use Rattle.darray_positions.specs.Index.{indexWords}
+use Rattle.darray_positions.specs.Positions.{positions}
 use Rattle.darray.specs.Select.{Indexed}
-use Rattle.darray.proofs.Index.{length-table}
+use Rattle.darray_positions.proofs.Index.{length-table}
 use Rattle.elias_fano_words.specs.Checks.{Held, lowBits}
 use Rattle.elias_fano_words.specs.Image.{highWords, lowNumber}
 use Rattle.elias_fano_words.specs.Sizes.{lowLen, highLen}

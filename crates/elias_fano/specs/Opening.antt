@@ -7,8 +7,8 @@ use lib.ListN.{length, getD, take, drop}
 use Rattle.broadword.specs.Places.{SelectInByte, select}
 use Rattle.broadword.specs.declared.Found.the-variants.{At}
 use Rattle.bit_words.specs.Vector.{wordsFor, bitOver}
-use Rattle.darray.specs.Index.{indexWords}
-use Rattle.darray.specs.Positions.{positions}
+use Rattle.darray_positions.specs.Index.{indexWords}
+use Rattle.darray_positions.specs.Positions.{positions}
 use Rattle.elias_fano_words.specs.Sizes.{lowLen, highLen}
 use Rattle.elias_fano.specs.declared.image.Header.{Header}
 use Rattle.elias_fano.specs.declared.image.Header.the-variants as head

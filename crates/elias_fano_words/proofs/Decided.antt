@@ -20,7 +20,7 @@ use Rattle.broadword.proofs.Find.{Selected, select-at, select-some}
 use Rattle.bit_words.specs.Vector.{bitAt, wordsFor}
 use Rattle.bit_words.proofs.Last.{not-one}
 use Rattle.bit_words.proofs.Runs.{Fit, bitAt-le}
-use Rattle.darray.specs.Index.{table}
+use Rattle.darray_positions.specs.Index.{table}
 use Rattle.elias_fano_words.specs.declared.check.Checked.{Checked}
 use Rattle.elias_fano_words.specs.declared.check.Checked.the-variants as checked
 use Rattle.elias_fano_words.specs.Sizes.{lowLen, highLen}

@@ -22,7 +22,7 @@ use Rattle.bit_words.specs.Vector.{bitAt, wordsFor, numberWords}
 use Rattle.bit_words.proofs.Runs.{getD-past}
 use Rattle.bit_words.proofs.Windows.{number-bits}
 use Rattle.bit_words.proofs.Overwrite.{length-numberWords, bitAt-number}
-use Rattle.darray.proofs.Index.{length-table, getD-table}
+use Rattle.darray_positions.proofs.Index.{length-table, getD-table}
 use Rattle.elias_fano_words.specs.Sizes.{lowLen, highLen}
 use Rattle.elias_fano_words.specs.Image.{highFrom, lowNumber, highWords}
 use Rattle.elias_fano_words.specs.Times.{rising, lastOf, bitWords, timeIn, timesIn}

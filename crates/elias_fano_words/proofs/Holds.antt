@@ -23,12 +23,12 @@ use Rattle.broadword.proofs.Find.{Selected, select-at}
 use Rattle.bit_words.specs.Vector.{bitAt, wordsFor, numberWords}
 use Rattle.bit_words.proofs.Runs.{Fit, bit-digit-1, bitAt-le}
 use Rattle.bit_words.proofs.Overwrite.{length-numberWords, fit-numberWords, bitAt-number}
-use Rattle.darray.specs.Index.{table}
-use Rattle.darray.specs.Positions.{places}
+use Rattle.darray_positions.specs.Index.{table}
+use Rattle.darray_positions.specs.Positions.{places}
 use Rattle.darray.specs.Queries.{same}
 use Rattle.darray.proofs.Matching.{same-refl, same-true}
-use Rattle.darray.proofs.Index.{length-table, getD-table}
-use Rattle.darray.proofs.Positions.{place-has, place-select, place-rises}
+use Rattle.darray_positions.proofs.Index.{length-table, getD-table}
+use Rattle.darray_positions.proofs.Positions.{place-has, place-select, place-rises}
 use Rattle.elias_fano_words.specs.Sizes.{lowLen, highLen}
 use Rattle.elias_fano_words.specs.Image.{highFrom, lowNumber, highWords}
 use Rattle.elias_fano_words.specs.Times.{rising, bitWords, timeIn, timesIn, holds}

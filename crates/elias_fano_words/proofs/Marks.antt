@@ -15,7 +15,7 @@ use Rattle.broadword.specs.Bits.{bit, ones}
 use Rattle.broadword.proofs.Count.{bit-half, bit-low, bit-shift}
 use Rattle.broadword.proofs.Lowest.{odd-times, pow-le, short, bit-one, bit-below, lowest-one}
 use Rattle.bit_words.proofs.Runs.{bit-under}
-use Rattle.darray.proofs.Counts.{ones-low}
+use Rattle.darray_positions.proofs.Counts.{ones-low}
 use Rattle.elias_fano_words.specs.Checks.{Held, Rises, Each, lowBits}
 use Rattle.elias_fano_words.proofs.Unset.{bit-zero}
 

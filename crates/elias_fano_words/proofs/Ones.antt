@@ -12,7 +12,7 @@ use lib.Seq.{getD-append-seam}
 use lib.Pow.{pow-pos, pow-mono, shr-mono, high, low}
 use Rattle.broadword.specs.Bits.{bit, count}
 use Rattle.broadword.proofs.Count.{bit-above, bit-mod, count-same, count-zero, count-add}
-use Rattle.darray.proofs.Positions.{below}
+use Rattle.darray_positions.proofs.Positions.{below}
 use Rattle.elias_fano_words.specs.Image.{highFrom}
 use Rattle.elias_fano_words.specs.Times.{rising, lastOf}
 use Rattle.elias_fano_words.proofs.Rising.{rising-induction, lastOf-snoc}

@@ -9,8 +9,8 @@ use native.Mathlib.Omega.{arith}
 use borrow.Author.Tests.{leb-true, ltb-true, le-leb, lt-ltb}
 use lib.Dec.{leb, ltb}
 use lib.ListN.{length, getD}
-use Rattle.darray.specs.Index.{table}
-use Rattle.darray.proofs.Index.{length-table, getD-table}
+use Rattle.darray_positions.specs.Index.{table}
+use Rattle.darray_positions.proofs.Index.{length-table, getD-table}
 use Rattle.elias_fano_words.specs.Times.{rising, lastFrom, lastOf}
 use Rattle.elias_fano_words.proofs.Truth.{and-true, true-and}
 

@@ -5,8 +5,8 @@ use Prim.Native.Nat.{ℕ, suc, _+_, _*_, _/_, _%_, _^_}
 use lib.ListN.{length, getD}
 use Rattle.broadword.specs.Fields.{flag, word}
 use Rattle.bit_words.specs.Vector.{wordsFor, numberWords}
-use Rattle.darray.specs.Index.{overflow, blocks, indexWords}
-use Rattle.darray.specs.Positions.{positions}
+use Rattle.darray_positions.specs.Index.{overflow, blocks, indexWords}
+use Rattle.darray_positions.specs.Positions.{positions}
 use Rattle.elias_fano_words.specs.Sizes.{lowLen, highLen}
 
 -- the high bits of times, the first of which has the number k: time t sets the bit t / 2 ^ l + k

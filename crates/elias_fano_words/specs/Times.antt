@@ -8,7 +8,7 @@ use lib.ListN.{length, take, drop}
 use Rattle.broadword.specs.Fields.{word}
 use Rattle.broadword.specs.Places.{select, orElse}
 use Rattle.bit_words.specs.Vector.{bitAt, wordsFor, numberWords}
-use Rattle.darray.specs.Index.{table}
+use Rattle.darray_positions.specs.Index.{table}
 use Rattle.darray.specs.Queries.{same}
 use Rattle.elias_fano_words.specs.Sizes.{lowLen, highLen}
 use Rattle.elias_fano_words.specs.Image.{highWords, lowNumber}

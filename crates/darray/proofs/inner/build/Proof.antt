@@ -5,8 +5,8 @@ use mathlib.Core.Path.{_≡_, sym, _∙_, subst}
 use Prim.Native.Nat.{ℕ, _≤_, _<_}
 use lib.ListN.{length}
 use Rattle.bit_words.proofs.Valid.{valid}
-use Rattle.darray.specs.Positions.{positions}
-use Rattle.darray.specs.Index.{indexWords}
+use Rattle.darray_positions.specs.Positions.{positions}
+use Rattle.darray_positions.specs.Index.{indexWords}
 use Rattle.darray.proofs.Building as building
 use Rattle.darray.proofs.Cases as cases
 use Rattle.darray.proofs.inner.build.Statement.{statement}

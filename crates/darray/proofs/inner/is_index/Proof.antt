@@ -2,7 +2,7 @@
 -- Assumes nothing.
 use native.Mathlib.Omega.{arith}
 use Rattle.darray.proofs.Comparing as comparing
-use Rattle.darray.proofs.Counts as counts
+use Rattle.darray_positions.proofs.Counts as counts
 use Rattle.darray.proofs.Matching as matching
 use borrow.Author.Needs.{needs}
 use Rattle.darray.proofs.inner.is_index.Statement.{statement}

@@ -9,12 +9,12 @@ use native.Mathlib.Omega.{arith}
 use lib.Dec.{leb}
 use Rattle.broadword.proofs.Count.{count-mono}
 use Rattle.bit_words.specs.Vector.{bitOver}
-use Rattle.darray.specs.Positions.{positions}
-use Rattle.darray.specs.Index.{before, spill}
-use Rattle.darray.specs.Scan.{Ahead}
-use Rattle.darray.proofs.Blocks as block
-use Rattle.darray.proofs.Index as index
-use Rattle.darray.proofs.Counts as scan
+use Rattle.darray_positions.specs.Positions.{positions}
+use Rattle.darray_positions.specs.Index.{before, spill}
+use Rattle.darray_positions.specs.Scan.{Ahead}
+use Rattle.darray_positions.proofs.Blocks as block
+use Rattle.darray_positions.proofs.Index as index
+use Rattle.darray_positions.proofs.Counts as scan
 use Rattle.darray.proofs.inner.overflow_of.Statement.{statement}
 use Rattle.darray.proofs.inner.overflow_of.Tie as tie
 

@@ -5,10 +5,10 @@ use Prim.Native.Nat.{ℕ, _+_, _/_, _^_, _<_}
 use native.Mathlib.Omega.{arith}
 use Rattle.broadword.specs.Bits.{count}
 use Rattle.bit_words.specs.Vector.{bitOver}
-use Rattle.darray.specs.Positions.{positions}
-use Rattle.darray.specs.Index.{blocks, before, lanes}
-use Rattle.darray.proofs.Blocks as block
-use Rattle.darray.proofs.Counts as scan
+use Rattle.darray_positions.specs.Positions.{positions}
+use Rattle.darray_positions.specs.Index.{blocks, before, lanes}
+use Rattle.darray_positions.proofs.Blocks as block
+use Rattle.darray_positions.proofs.Counts as scan
 use borrow.Author.Needs.{needs}
 use Rattle.darray.proofs.inner.sizes_of.Statement.{statement}
 use Rattle.darray.proofs.inner.sizes_of.Tie as tie

@@ -5,8 +5,8 @@ use mathlib.Core.Bool.{Bool}
 use Rattle.errors.specs.Answer.{value}
 use Rattle.broadword.specs.Fields.{flag}
 use Rattle.bit_words.proofs.Valid.{valid}
-use Rattle.darray.specs.Positions.{positions}
-use Rattle.darray.specs.Index.{indexWords}
+use Rattle.darray_positions.specs.Positions.{positions}
+use Rattle.darray_positions.specs.Index.{indexWords}
 use Rattle.darray.proofs.Cases as cases
 use Rattle.darray.proofs.Matching as matching
 use borrow.Author.Needs.{needs}

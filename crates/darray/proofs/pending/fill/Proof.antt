@@ -14,9 +14,9 @@ use Rattle.broadword.specs.declared.Found.the-variants.{At}
 use Rattle.broadword.proofs.Lowest.{at-some}
 use Rattle.bit_words.specs.Vector.{bitOver, wordOver}
 use Rattle.bit_words.proofs.Search.{first-is}
-use Rattle.darray.specs.Scan.{Position}
-use Rattle.darray.proofs.Blocks as block
-use Rattle.darray.proofs.Counts as counts
+use Rattle.darray_positions.specs.Scan.{Position}
+use Rattle.darray_positions.proofs.Blocks as block
+use Rattle.darray_positions.proofs.Counts as counts
 use Rattle.darray.proofs.Taking as taking
 use Rattle.darray.proofs.Taking.{Left}
 use Rattle.darray.proofs.pending.fill.Statement.{statement}

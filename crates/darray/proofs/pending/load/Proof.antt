@@ -5,8 +5,8 @@ use Prim.Native.Nat.{ℕ, _+_, _-_, _*_}
 use native.Mathlib.Omega.{arith}
 use lib.ListN.{length}
 use Rattle.bit_words.specs.Vector.{bitOver}
-use Rattle.darray.specs.Scan.{Inside}
-use Rattle.darray.proofs.Blocks as block
+use Rattle.darray_positions.specs.Scan.{Inside}
+use Rattle.darray_positions.proofs.Blocks as block
 use Rattle.darray.proofs.Sampling as sampling
 use borrow.Author.Needs.{needs}
 use Rattle.darray.proofs.pending.load.Statement.{statement}

@@ -3,10 +3,10 @@
 use Prim.Native.Nat.{_+_, _-_}
 use native.Mathlib.Omega.{arith}
 use Rattle.bit_words.specs.Vector.{bitOver}
-use Rattle.darray.specs.Scan.{Ahead}
+use Rattle.darray_positions.specs.Scan.{Ahead}
 use Rattle.darray.specs.Pending.{blockWide}
-use Rattle.darray.proofs.Blocks as block
-use Rattle.darray.proofs.Counts as counts
+use Rattle.darray_positions.proofs.Blocks as block
+use Rattle.darray_positions.proofs.Counts as counts
 use Rattle.darray.proofs.Sampling as sampling
 use borrow.Author.Needs.{needs}
 use Rattle.darray.proofs.pending.load_from.Statement.{statement}

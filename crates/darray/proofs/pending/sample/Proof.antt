@@ -8,10 +8,10 @@ use native.Mathlib.Nat.{not-suc-le-zero}
 use native.Mathlib.Omega.{arith}
 use lib.ListN.{length, getD, length-set}
 use Rattle.bit_words.specs.Vector.{bitOver}
-use Rattle.darray.specs.Scan.{Position, Ahead}
+use Rattle.darray_positions.specs.Scan.{Position, Ahead}
 use Rattle.darray.specs.Pending.{Due}
-use Rattle.darray.proofs.Blocks as blocks
-use Rattle.darray.proofs.Counts as counts
+use Rattle.darray_positions.proofs.Blocks as blocks
+use Rattle.darray_positions.proofs.Counts as counts
 use Rattle.darray.proofs.Sampling as sampling
 use Rattle.darray.proofs.pending.sample.Statement.{statement}
 use Rattle.darray.proofs.pending.sample.Tie as tie
