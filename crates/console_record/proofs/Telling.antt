@@ -20,7 +20,7 @@ use Rattle.elias_fano.specs.Steps.{newOf, pushOf, buildOf}
 use Rattle.console_text.specs.declared.line.Arguments.{Arguments}
 use Rattle.console_text.specs.declared.output.Reply.the-variants as reply
 use Rattle.console_record.specs.declared.Record.{Record}
-use Rattle.console_record.specs.Section.{answers, bad, unknown, turn, turnOf, told, lending, withImage, forgeOf, setImage, holdOf, lendOf, ofOpened, askOf, pokeOf, toldPushed, ofPush, toldBuilt, ofBuild, alterOf, above, withinOf, fitsOf, doneOf, commandOf, numbersIn, shownOf}
+use Rattle.console_record.specs.Section.{answers, bad, unknown, turn, turnOf, told, lending, withImage, forgeOf, setImage, holdOf, lendOf, openSays, askOf, pokeOf, toldPushed, ofPush, toldBuilt, ofBuild, alterOf, above, withinOf, fitsOf, doneOf, commandOf, numbersIn, shownOf}
 
 pub pushed-leaves : (b : Builder) (p : Pushed) (s : Record) (w : List ℕ) → turnOf (toldPushed p s) w ≡ ofPush s (ofPushed b p w)
 pushed-leaves b (pushed.Accepted c) s w = refl
@@ -64,7 +64,7 @@ module _ (n x : ℕ) (s : Record) (w : List ℕ) where
   poke-bad h = simp (le-ltb n (length w) h)
 
 module _ (k a : ℕ) (i : List ℕ) where
-  pub ask-open : k ≡ 2 → askOf k a i ≡ answers (ofOpened (openOf i))
+  pub ask-open : k ≡ 2 → askOf k a i ≡ answers (openSays (openOf i))
   unfolding askOf
   ask-open e = simp (eq-eqb k 2 e)
 

@@ -12,9 +12,7 @@ use Rattle.elias_fano.specs.declared.builder.Pushed.{Pushed}
 use Rattle.elias_fano.specs.declared.builder.Pushed.the-variants as pushed
 use Rattle.elias_fano.specs.declared.builder.Built.{Built}
 use Rattle.elias_fano.specs.declared.builder.Built.the-variants as built
-use Rattle.elias_fano.specs.declared.image.Opened.{Opened}
-use Rattle.elias_fano.specs.declared.image.Opened.the-variants as opened
-use Rattle.elias_fano.specs.Accept.{openOf, selectOf}
+use Rattle.elias_fano.specs.Accept.{Opening, parts, unopened, openOf, selectOf}
 use Rattle.elias_fano.specs.Made.{Made, builder, nobody}
 use Rattle.elias_fano.specs.Steps.{newOf, pushOf, buildOf}
 use Rattle.console_text.specs.declared.line.Arguments.{Arguments}
@@ -81,13 +79,14 @@ lendOf n x s w = cond (ltb (length w) n) (turn bad s w) (turn (answers done) (le
 
 -- ---- questions over the image i
 
-abbrev pub ofOpened : Opened → Answer
-ofOpened (opened.Image p) = done
-ofOpened (opened.Refused e) = refused (numberOf e)
+-- an opening says only that it is done
+abbrev pub openSays : Opening → Answer
+openSays (parts p) = done
+openSays (unopened k) = refused k
 
 -- `open` 2, `select K`
 unfoldable pub askOf : ℕ → ℕ → List ℕ → Says
-askOf k a i = cond (eqb k 2) (answers (ofOpened (openOf i))) (answers (selectOf i a))
+askOf k a i = cond (eqb k 2) (answers (openSays (openOf i))) (answers (selectOf i a))
 
 -- ---- what writes into the lent words w
 

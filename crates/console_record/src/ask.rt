@@ -1,7 +1,7 @@
 // The questions of a record, over its image.
 ghost use mathlib.Core.Path.{_≡_};
-ghost use Rattle.elias_fano.specs.Accept.{ofValue};
-ghost use Rattle.console_record.specs.Section.{answers, saysOf, ofOpened, askOf};
+ghost use Rattle.elias_fano.specs.Accept.{ofOpened, ofValue};
+ghost use Rattle.console_record.specs.Section.{answers, saysOf, openSays, askOf};
 use console_text::line;
 use console_text::output::Reply;
 use elias_fano::image;
@@ -9,7 +9,7 @@ use elias_fano::image::Opened;
 use elias_fano::image::Value;
 
 fn opened(o: Opened) -> Reply
-    ensures { λ t. ⌜ saysOf t ≡ answers (ofOpened o) ⌝ }
+    ensures { λ t. ⌜ saysOf t ≡ answers (openSays (ofOpened o)) ⌝ }
 {
     match o {
         Opened::Image(_) => Reply::Done,

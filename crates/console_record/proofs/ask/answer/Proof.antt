@@ -3,9 +3,8 @@ use mathlib.Core.Path.{ap, sym, _∙_}
 use Prim.Native.Nat.{ℕ}
 use borrow.Author.Needs.{needs}
 use Rattle.errors.specs.Answer.{Answer}
-use Rattle.elias_fano.specs.declared.image.Opened.{Opened}
-use Rattle.elias_fano.specs.Accept.{selectOf}
-use Rattle.console_record.specs.Section.{answers, ofOpened}
+use Rattle.elias_fano.specs.Accept.{Opening, selectOf}
+use Rattle.console_record.specs.Section.{answers, openSays}
 use Rattle.console_record.proofs.Telling.{ask-open, ask-select}
 use Rattle.console_record.proofs.ask.answer.Statement.{statement}
 use Rattle.console_record.proofs.ask.answer.Tie as tie
@@ -19,7 +18,7 @@ opened-requires c κs = search needs
 returns : tie.Need-returns
 returns c =
     let a = c .before .before .before .before .args in
-    c .opened .ensures ∙ ap (λ (o : Opened). answers (ofOpened o)) (c .before .«open» .ensures) ∙ sym (ask-open (a .k) (a .a) (a .words .now) (c .before .before .if1 .taken))
+    c .opened .ensures ∙ ap (λ (o : Opening). answers (openSays o)) (c .before .«open» .ensures) ∙ sym (ask-open (a .k) (a .a) (a .words .now) (c .before .before .if1 .taken))
 
 size-requires : tie.Need-size-requires
 size-requires c κs = search needs

@@ -2,7 +2,8 @@
 use mathlib.Core.Path.{ap, sym}
 use borrow.Author.Needs.{needs}
 use Rattle.elias_fano.specs.declared.image.Opened.{Opened}
-use Rattle.console_record.specs.Section.{answers, ofOpened}
+use Rattle.elias_fano.specs.Accept.{ofOpened}
+use Rattle.console_record.specs.Section.{answers, openSays}
 use Rattle.console_record.proofs.ask.opened.Statement.{statement}
 use Rattle.console_record.proofs.ask.opened.Tie as tie
 
@@ -13,10 +14,10 @@ enum-known-o : tie.Need-enum-known-o
 enum-known-o c = search needs
 
 returns : tie.Need-returns
-returns c = ap (λ (o : Opened). answers (ofOpened o)) (sym (c .enum-told .given .1))
+returns c = ap (λ (o : Opened). answers (openSays (ofOpened o))) (sym (c .enum-told .given .1))
 
 returns-2 : tie.Need-returns-2
-returns-2 c = ap (λ (o : Opened). answers (ofOpened o)) (sym (c .before .o .given .1))
+returns-2 c = ap (λ (o : Opened). answers (openSays (ofOpened o))) (sym (c .before .o .given .1))
 
 pub opened-spec : {M : Type 1} → statement M
 opened-spec = tie.close (tie.spec enum-told enum-known-o returns returns-2)
