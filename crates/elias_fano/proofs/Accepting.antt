@@ -91,7 +91,7 @@ module _ (i : List ℕ) (head : Headed i) (bits : holds (universe i) (declared i
   T = timesIn u n m ws
 
   long : zerosIn i ≤ length i
-  long = let l = head .long in omega arith
+  long = let l = head .complete .long in omega arith
 
   length-ws : length ws ≡ hw + lw
   length-ws = length-take-le (hw + lw) (drop 6 i) (let l = length-drop 6 i in let z = long in omega arith)
@@ -124,7 +124,7 @@ module _ (i : List ℕ) (head : Headed i) (bits : holds (universe i) (declared i
   length-T = sym (ap (λ (w : List ℕ). length (timesIn u n m w)) split) ∙ length-held u n m high low length-high′
 
   pub few : length T ≤ n
-  few = let h = head .few in let e = length-T in omega arith
+  few = let h = head .counts .few in let e = length-T in omega arith
 
   -- the high words
   pub high-is : highIn i ≡ highWords u n T
@@ -170,7 +170,7 @@ module _ (i : List ℕ) (head : Headed i) (bits : holds (universe i) (declared i
     fourth = over-is m (length (highPositions u n true T)) (getD i 4 0) (spilled (highPositions u n true T)) (length ones) length-ones (index-length (highPositions u n true T)) (sym (ones-many u n T rises few ∙ length-T))
 
     length-zeros : length (drop (zerosIn i) i) ≡ cond c (indexLen (highOf i - m) (getD i 5 0)) 0
-    length-zeros = length-drop (zerosIn i) i ∙ (let l = head .long in omega arith)
+    length-zeros = length-drop (zerosIn i) i ∙ (let l = head .complete .long in omega arith)
 
     fifth-by : (b : Bool) → (b ≡ false → getD i 5 0 ≡ 0) → length (cond b (indexWords (highPositions u n false T)) []) ≡ cond b (indexLen (highOf i - m) (getD i 5 0)) 0 → getD i 5 0 ≡ cond b (spilled (highPositions u n false T)) 0
     fifth-by true z e =
@@ -179,12 +179,12 @@ module _ (i : List ℕ) (head : Headed i) (bits : holds (universe i) (declared i
     fifth-by false z e = z refl
 
     fifth : getD i 5 0 ≡ cond c (spilled (highPositions u n false T)) 0
-    fifth = fifth-by c (head .none) (sym (ap length zeros-is) ∙ length-zeros)
+    fifth = fifth-by c (head .complete .none) (sym (ap length zeros-is) ∙ length-zeros)
 
     header-is : take 6 i ≡ u ∷ n ∷ length T ∷ flag c ∷ spilled (highPositions u n true T) ∷ cond c (spilled (highPositions u n false T)) 0 ∷ []
     header-is =
         six-of i (head .six)
-        ∙ (λ x. u ∷ n ∷ sym length-T x ∷ flag-eqb (getD i 3 0) (head .choice) c refl x ∷ fourth x ∷ fifth x ∷ [])
+        ∙ (λ x. u ∷ n ∷ sym length-T x ∷ flag-eqb (getD i 3 0) (head .counts .choice) c refl x ∷ fourth x ∷ fifth x ∷ [])
 
     image-is : i ≡ image u n c T
     unfolding image bitWords lowWords
@@ -197,7 +197,7 @@ module _ (i : List ℕ) (head : Headed i) (bits : holds (universe i) (declared i
     unfolding accepted
     accepts fits =
         ap (λ (S : List ℕ). fit u n S && same i (image u n c S)) times-is
-        ∙ true-and (fit u n T) (same i (image u n c T)) (of-fits u n T (record { small = fits 0; some = head .some; most = head .most; few = few; rises = rises }))
+        ∙ true-and (fit u n T) (same i (image u n c T)) (of-fits u n T (record { small = fits 0; some = head .counts .some; most = head .counts .most; few = few; rises = rises }))
         (ap (same i) (sym image-is) ∙ same-refl i)
 
 -- the high words have no padding

@@ -61,11 +61,11 @@ module _ (i : List ℕ) where
   pub limits-of : accepted i ≡ true → Limits i
   limits-of a =
       let f = found i a .head in
-      let l = f .long in
-      let z = fifth-le (ranked i) (highOf i - pushed i) (getD i 5 0) (f .none) in
+      let l = f .complete .long in
+      let z = fifth-le (ranked i) (highOf i - pushed i) (getD i 5 0) (f .complete .none) in
       record {
         six = f .six;
-        counts = record { some = f .some; most = f .most; few = f .few; choice = f .choice };
+        counts = f .counts;
         ones = omega arith;
         zeros = omega arith;
       }
@@ -107,18 +107,10 @@ module _ (i : List ℕ) where
           go false d = it-is-not (λ (w : Complete i). eqb-false _ _ d (w .none (sym rank-is ∙ r)))
 
   pub complete-of : accepted i ≡ true → Complete i
-  complete-of a = let f = found i a .head in record { none = f .none; long = f .long }
+  complete-of a = found i a .head .complete
 
   pub heads : Limits i → Complete i → Headed i
-  heads g w = record {
-    six = g .six;
-    some = g .counts .some;
-    most = g .counts .most;
-    few = g .counts .few;
-    choice = g .counts .choice;
-    none = w .none;
-    long = w .long;
-  }
+  heads g w = record { six = g .six; counts = g .counts; complete = w }
 
   -- ---- the sizes in range
 

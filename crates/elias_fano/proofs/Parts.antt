@@ -134,12 +134,11 @@ module _ (u n : ℕ) (c : Bool) (T : List ℕ) (f : Fits u n T) where
   unfolding image
   headed = record {
     six = let l = length-image in omega arith;
-    some = f .some;
-    most = f .most;
-    few = f .few;
-    choice = flag-le c;
-    none = λ (e : ranked I ≡ false). none-picked c (spilled (highPositions u n false T)) (sym (image-ranked u n c T) ∙ e);
-    long = length-image ∙ ends;
+    counts = record { some = f .some; most = f .most; few = f .few; choice = flag-le c };
+    complete = record {
+      none = λ (e : ranked I ≡ false). none-picked c (spilled (highPositions u n false T)) (sym (image-ranked u n c T) ∙ e);
+      long = length-image ∙ ends;
+    };
   }
 
   pub bits-in : bitsIn I ≡ bits

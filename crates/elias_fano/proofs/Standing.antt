@@ -64,7 +64,7 @@ module _ (i : List ℕ) (p : Parts) (ep : p ≡ partsOf i) (h : Headed i) where
   ones-zeros = let e = zeros-is in let d = ones-is in omega arith
 
   pub zeros-end : p .«zeros_at» ≤ length i
-  zeros-end = let e = zeros-is in let d = h .long in omega arith
+  zeros-end = let e = zeros-is in let d = h .complete .long in omega arith
 
   pub ones-end : p .«ones_at» ≤ length i
   ones-end = let a = ones-zeros in let b = zeros-end in omega arith
@@ -89,7 +89,7 @@ module _ (i : List ℕ) (p : Parts) (ep : p ≡ partsOf i) (h : Headed i) where
 
   -- without the rank index nothing follows the index over the ones
   pub no-zeros : ranked i ≡ false → drop (zerosIn i) i ≡ []
-  no-zeros e = drop-of-length-le i {i = zerosIn i} (let l = h .long in let d : length i ≡ zerosIn i + 0 = l ∙ rw e in omega arith)
+  no-zeros e = drop-of-length-le i {i = zerosIn i} (let l = h .complete .long in let d : length i ≡ zerosIn i + 0 = l ∙ rw e in omega arith)
 
   length-bits : length (take (p .«ones_at» - 6) (drop 6 i)) ≡ p .«ones_at» - 6
   length-bits = length-take-le (p .«ones_at» - 6) (drop 6 i) (let l = length-drop 6 i in let e = ones-end in let s = h .six in omega arith)
@@ -99,9 +99,9 @@ module _ (i : List ℕ) (p : Parts) (ep : p ≡ partsOf i) (h : Headed i) where
   checkable =
       subst (λ (q : Parts). Checkable (q .universe) (q .«num_vals») (q .«num_pushed») (q .«low_len») (q .«high_len») (take (p .«ones_at» - 6) (drop 6 i))) (sym ep)
       (record {
-        some = h .some;
-        few = h .most;
-        upto = h .few;
+        some = h .counts .some;
+        few = h .counts .most;
+        upto = h .counts .few;
         low = refl;
         high = refl;
         room = let l = length-bits in let e = ones-is in omega arith;
@@ -136,7 +136,7 @@ module _ (i : List ℕ) (p : Parts) (ep : p ≡ partsOf i) (h : Headed i) (hu : 
 
   pub indexable : (invalid part (p .«high_len») ≡ false) × (p .«high_len» < 2 ^ 63)
   indexable =
-      let l = limits.high-small (universe i) (declared i) (pushed i) hu (h .some) (h .most) (h .few) in
+      let l = limits.high-small (universe i) (declared i) (pushed i) hu (h .counts .some) (h .counts .most) (h .counts .few) in
       (ap₂ invalid (high-part i p ep h) high-len-is ∙ valid-part i h b, omega (arith, high-len-is))
 
   pub high-room : wordsFor (p .«high_len») ≤ length part

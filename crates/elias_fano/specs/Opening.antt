@@ -52,12 +52,8 @@ pub record Complete (i : List ℕ) : Type 0 where
 -- a header in its limits, and the length that it gives
 pub record Headed (i : List ℕ) : Type 0 where
   pub six : 6 ≤ length i
-  pub some : 0 < declared i
-  pub most : declared i ≤ 16777216
-  pub few : pushed i ≤ declared i
-  pub choice : getD i 3 0 ≤ 1
-  pub none : ranked i ≡ false → getD i 5 0 ≡ 0
-  pub long : length i ≡ endIn i
+  pub counts : Counts (declared i) (pushed i) (getD i 3 0)
+  pub complete : Complete i
 
 abbrev pub Heads : List ℕ → Header → Type 0
 Heads i (head.Parts p) = (p ≡ partsOf i) × Headed i
