@@ -44,7 +44,3 @@ pub record Highest (x i : ℕ) : Type 0 where
 
 pub highest : (x i : ℕ) → x < 2 ^ 64 → last (bit x) 64 ≡ At i → Highest x i
 highest x i h e = record { low = least x i e; high = below-next x i h e; small = last-is (bit x) 64 i e .within }
-
--- what is positive has one
-pub has-one : (x : ℕ) → x < 2 ^ 64 → 0 < x → last (bit x) 64 ≡ Nothing → ⊥
-has-one x h p e = let z = none-zero x h e in omega arith

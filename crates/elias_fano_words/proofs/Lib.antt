@@ -1,4 +1,3 @@
-pub mod Apart
 pub mod Bitwise
 pub mod Bounds
 pub mod Decided
