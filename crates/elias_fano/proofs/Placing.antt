@@ -1,8 +1,8 @@
 -- The places at which a value is filed: they are in the words, and no sum or product on the way leaves a word. Assumes nothing.
 use mathlib.Core.Path.{_≡_, sym, ap, ap₂, _∙_, subst}
 use mathlib.Core.List.{List}
-use Prim.Native.Nat.{ℕ, _+_, _*_, _/_, _%_, _^_, _≤_, _<_}
-use native.Mathlib.Nat.{mod-lt}
+use Prim.Native.Nat.{ℕ, _+_, _-_, _*_, _/_, _%_, _^_, _≤_, _<_}
+use native.Mathlib.Nat.{mod-lt, mod-eq-of-lt, div-add-mod', lt-of-le-of-lt, lt-of-lt-of-le, le-of-lt}
 use native.Mathlib.Omega.{arith}
 use mir.Syntax.{w64}
 use mir.Val.{Fits}
@@ -40,8 +40,8 @@ module _ (b : Builder) (t k : ℕ) (s : Sizes) (hu : b .universe < 2 ^ 64) (f : 
   low-is : low ≡ lowLen u n
   low-is = ap (λ (z : Sizes). z .«low_len») (f .roomy .sizes)
 
-  high-is : wordsFor (s .«high_len») ≡ wordsFor (highLen u n)
-  high-is = ap (λ (z : Sizes). wordsFor (z .«high_len»)) (f .roomy .sizes)
+  low-at-is : s .«low_at» ≡ 6 + wordsFor (highLen u n)
+  low-at-is = ap (λ (z : Sizes). z .«low_at») (f .roomy .sizes)
 
   pub low-small : low < 64
   low-small = subst (λ (y : ℕ). y < 64) (sym low-is) (low-lt u n hu (known .some))
@@ -68,30 +68,42 @@ module _ (b : Builder) (t k : ℕ) (s : Sizes) (hu : b .universe < 2 ^ 64) (f : 
   pub low-bit-fits : Fits w64 (m * low)
   low-bit-fits = record { fits = let a = product-small in omega arith }
 
-  pub bits-small : (x y : ℕ) → x ≡ y % 2 ^ low → x < 2 ^ low
-  bits-small x y e = subst (λ (z : ℕ). z < 2 ^ low) (sym e) (mod-lt y (pow-pos low))
+  pub low-words-fit : Fits w64 (64 * s .«low_at»)
+  low-words-fit = record { fits = let a = high-small in let e = low-at-is in omega arith }
 
-  -- h is the number of high words
-  module _ (h : ℕ) (eh : h ≡ wordsFor (s .«high_len»)) where
-    words-is : h ≡ wordsFor (highLen u n)
-    words-is = eh ∙ high-is
+  pub low-place-fits : Fits w64 (64 * s .«low_at» + m * low)
+  low-place-fits = record { fits = let a = high-small in let e = low-at-is in let c = product-small in omega arith }
 
-    pub low-words-fit : Fits w64 (64 * (6 + h))
-    low-words-fit = record { fits = let a = high-small in let e = words-is in omega arith }
+  pub low-places : (i : ℕ) → i ≡ k → 64 * s .«low_at» + m * low + low ≤ 64 * i
+  unfolding startLen
+  low-places i ei =
+      let a : m * low + low ≤ n * lowLen u n = subst (λ (y : ℕ). m * y + y ≤ n * lowLen u n) (sym low-is) (low-room u n m few) in
+      let e = low-at-is in
+      let l = f .roomy .long in
+      omega arith
 
-    pub low-place-fits : Fits w64 (64 * (6 + h) + m * low)
-    low-place-fits = record { fits = let a = high-small in let e = words-is in let c = product-small in omega arith }
+  -- ---- the low bits: the value less its high bits
 
-    pub low-places : (i : ℕ) → i ≡ k → 64 * (6 + h) + m * low + low ≤ 64 * i
-    unfolding startLen
-    low-places i ei =
-        let a : m * low + low ≤ n * lowLen u n = subst (λ (y : ℕ). m * y + y ≤ n * lowLen u n) (sym low-is) (low-room u n m few) in
-        let e = words-is in
-        let l = f .roomy .long in
-        omega arith
+  -- the high bits at their places
+  raised : (t / 2 ^ low * 2 ^ low) % 2 ^ 64 + t % 2 ^ low ≡ t
+  raised =
+      let d = div-add-mod' t (2 ^ low) in
+      ap (λ (x : ℕ). x + t % 2 ^ low) (mod-eq-of-lt (lt-of-le-of-lt (le-of-sum (t / 2 ^ low * 2 ^ low) (t % 2 ^ low) t d) (lt-of-lt-of-le (f .below) (le-of-lt hu)))) ∙ d
+    where
+      le-of-sum : (x y z : ℕ) → x + y ≡ z → x ≤ z
+      le-of-sum x y z e = omega arith
 
-    pub filed-is : (x : ℕ) → x ≡ t % 2 ^ low → (w : List ℕ) → overwrite (overwrite w (64 * 6 + (t / 2 ^ low + m)) 1 1) (64 * (6 + h) + m * low) low x ≡ filed u n m t w
-    unfolding filed
-    filed-is x ex w =
-        ap₂ (λ (a y : ℕ). overwrite (overwrite w (64 * 6 + (t / 2 ^ low + m)) 1 1) (64 * (6 + a) + m * low) low y) words-is ex
-        ∙ ap (λ (l : ℕ). overwrite (overwrite w (64 * 6 + (t / 2 ^ l + m)) 1 1) (64 * (6 + wordsFor (highLen u n)) + m * l) l (t % 2 ^ l)) low-is
+  pub raised-le : (t / 2 ^ low * 2 ^ low) % 2 ^ 64 ≤ t
+  raised-le = let e = raised in omega arith
+
+  pub rest-is : t - (t / 2 ^ low * 2 ^ low) % 2 ^ 64 ≡ t % 2 ^ low
+  rest-is = let e = raised in omega arith
+
+  pub rest-small : t - (t / 2 ^ low * 2 ^ low) % 2 ^ 64 < 2 ^ low
+  rest-small = subst (λ (z : ℕ). z < 2 ^ low) (sym rest-is) (mod-lt t (pow-pos low))
+
+  pub filed-is : (w : List ℕ) → overwrite (overwrite w (64 * 6 + (t / 2 ^ low + m)) 1 1) (64 * s .«low_at» + m * low) low (t - (t / 2 ^ low * 2 ^ low) % 2 ^ 64) ≡ filed u n m t w
+  unfolding filed
+  filed-is w =
+      ap₂ (λ (a y : ℕ). overwrite (overwrite w (64 * 6 + (t / 2 ^ low + m)) 1 1) (64 * a + m * low) low y) low-at-is rest-is
+      ∙ ap (λ (l : ℕ). overwrite (overwrite w (64 * 6 + (t / 2 ^ l + m)) 1 1) (64 * (6 + wordsFor (highLen u n)) + m * l) l (t % 2 ^ l)) low-is

@@ -12,10 +12,8 @@ use crate::finish::plan_image;
 use crate::finish::write_image;
 use bit_words::WORD_LEN;
 use bit_words::fill;
-use bit_words::low_bits;
 use bit_words::put_bits;
 use bit_words::set_one;
-use bit_words::words_for;
 use elias_fano_words::check::Checked;
 use elias_fano_words::check::check;
 use elias_fano_words::sizes::MAX_VALS;
@@ -188,11 +186,12 @@ fn file(b: Builder, val: u64, s: Sizes, buffer: &mut [u64])
 {
     let low = s.low_len;
     let at = b.num_pushed as usize;
-    set_one(&mut *buffer, WORD_LEN * 6 + ((val >> low) as usize + at));
+    let upper = val >> low;
+    set_one(&mut *buffer, WORD_LEN * 6 + (upper as usize + at));
     put_bits(
         &mut *buffer,
-        WORD_LEN * (6 + words_for(s.high_len)) + at * low,
-        low_bits(val, low),
+        WORD_LEN * s.low_at + at * low,
+        val - (upper << low),
         low,
     );
 }

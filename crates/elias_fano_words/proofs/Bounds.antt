@@ -47,18 +47,5 @@ module _ (u n : ℕ) (hu : u < 2 ^ 64) (hn : 0 < n) where
     pub low-product : n * l ≤ 16777216 * 63
     low-product = let h = low-lt in let k : l ≤ 63 = omega arith in mul-le-mul few k
 
-    pub low-fits : Fits w64 (n * l)
-    low-fits = record { fits = let p = low-product in omega arith }
-
-    high-bound : n + 2 + u / 2 ^ l ≤ 3 * 16777216 + 1
+    pub high-bound : n + 2 + u / 2 ^ l ≤ 3 * 16777216 + 1
     high-bound = let g : u / 2 ^ l < 2 * n = subst⁻¹ (λ (k : ℕ). u / 2 ^ k < 2 * n) e high-lt in omega arith
-
-    module _ (h : ℕ) (eh : h ≤ n + 2 + u / 2 ^ l) where
-      pub high-fits : Fits w64 h
-      high-fits = record { fits = let g = high-bound in omega arith }
-
-      pub few-high-words : (a : ℕ) → a ≡ wordsFor h → a ≤ 1000000
-      few-high-words a ea = let g = high-bound in omega arith
-
-    pub few-low-words : (a : ℕ) → a ≡ wordsFor (n * l) → a ≤ 20000000
-    few-low-words a ea = let p = low-product in omega arith

@@ -17,6 +17,6 @@ highLen u n = n + 2 + u / 2 ^ lowLen u n
 unfoldable pub startLen : ℕ → ℕ → ℕ
 startLen u n = 6 + wordsFor (highLen u n) + wordsFor (n * lowLen u n)
 
--- all three
+-- all three, and the word at which the low bits begin
 abbrev pub sizesOf : ℕ → ℕ → Sizes
-sizesOf u n = record { «low_len» = lowLen u n; «high_len» = highLen u n; «start_len» = startLen u n }
+sizesOf u n = record { «low_len» = lowLen u n; «high_len» = highLen u n; «low_at» = 6 + wordsFor (highLen u n); «start_len» = startLen u n }

@@ -2,17 +2,18 @@
 ghost use mathlib.Core.Path.{_≡_};
 ghost use Prim.Native.Nat.{_<_, _≤_};
 ghost use Rattle.elias_fano_words.specs.Sizes.{lowLen, sizesOf};
-use bit_words::words_for;
+use bit_words::WORD_LEN;
 use broadword::Found;
 use broadword::msb;
 
 // The most values that a record may declare.
 pub const MAX_VALS: u64 = 16_777_216;
 
-// The sizes that the calls share.
+// The sizes that the calls share, and the word at which the low bits begin.
 pub struct Sizes {
     pub low_len: usize,
     pub high_len: usize,
+    pub low_at: usize,
     pub start_len: usize,
 }
 
@@ -35,9 +36,11 @@ pub fn of_record(universe: u64, num_vals: u64) -> Sizes
 {
     let low = low_len(universe, num_vals);
     let high = num_vals as usize + 2 + (universe >> low) as usize;
+    let low_at = 6 + (high + 63) / WORD_LEN;
     Sizes {
         low_len: low,
         high_len: high,
-        start_len: 6 + words_for(high) + words_for(num_vals as usize * low),
+        low_at,
+        start_len: low_at + (num_vals as usize * low + 63) / WORD_LEN,
     }
 }
