@@ -4,14 +4,11 @@ use Prim.Native.Nat.{ℕ, _+_, _*_, _/_, _^_, _≤_, _<_}
 use native.Mathlib.Nat.{mul-le-mul, lt-of-le-of-lt, div-le-self, div-lt-iff-lt-mul}
 use native.Mathlib.Omega.{arith}
 use lib.Dec.{lit<}
-use mir.Syntax.{w64}
-use mir.Val.{Fits}
 use lib.Pow.{pow-pos, pow-add}
 use Rattle.broadword.specs.Bits.{bit}
 use Rattle.broadword.specs.Places.{last, orElse}
 use Rattle.broadword.specs.declared.Found.{Found}
 use Rattle.broadword.specs.declared.Found.the-variants.{At, Nothing}
-use Rattle.bit_words.specs.Vector.{wordsFor}
 use Rattle.elias_fano_words.specs.Sizes.{lowLen, highLen}
 use Rattle.elias_fano_words.proofs.Highest.{highest, none-zero}
 
