@@ -3,12 +3,12 @@ use mathlib.Core.Path.{_≡_, refl, sym, _∙_}
 use mathlib.Core.List.{List}
 use mathlib.Core.Bool.{Bool, true, false, not}
 use Prim.Native.Nat.{ℕ, _/_, _%_, _^_, _≤_, _<_}
-use native.Mathlib.Omega.{arith}
 use native.Mathlib.Decide.{decLe}
 use native.Mathlib.Nat.{lt-of-not-le}
 use borrow.Author.Tests.{le-ltb, lt-ltb, eq-eqb, ne-eqb, eqb-true}
 use lib.Dec.{eqb}
 use lib.ListN.{length, getD}
+use Rattle.broadword.proofs.Truth.{true-false}
 use Rattle.bit_words.specs.Vector.{wordsFor, padding, invalid}
 
 module _ (ws : List ℕ) (len : ℕ) where
@@ -32,9 +32,6 @@ pub record Valid (ws : List ℕ) (len : ℕ) : Type 0 where
 not-false : (t : Bool) → not t ≡ false → t ≡ true
 not-false true e = refl
 not-false false e = sym e
-
-true-false : true ≡ false → ⊥
-true-false e = let z : _≡_ {A = ℕ} 0 1 = cc in omega arith
 
 pub valid : (ws : List ℕ) (len : ℕ) → invalid ws len ≡ false → Valid ws len
 valid ws len e = record { room = enough (decLe (wordsFor len) (length ws)); clear = λ n. zero n (decLe (wordsFor len) (length ws)) }

@@ -9,3 +9,4 @@ pub mod Smear
 pub mod Spread
 pub mod Table
 pub mod Threshold
+pub mod Truth

@@ -17,7 +17,7 @@ use Rattle.darray_positions.specs.Positions.{positions}
 use Rattle.darray_positions.specs.Index.{pos, blocks, size, wide, spill, before, lanes, laneWords, indexWords}
 use Rattle.darray_positions.specs.Scan.{Position, Inside}
 use Rattle.darray.specs.Sizes.{Sized, Writable}
-use Rattle.darray.specs.Pending.{Due, Sampled, Loaded, Rising, blockWide, blockSpill, flushed, Flushable, Matches, lanesAt, overAt}
+use Rattle.darray.specs.Pending.{Due, Sampled, Loaded, LanesRise, blockWide, blockSpill, flushed, Flushable, Matches, lanesAt, overAt}
 use Rattle.darray_positions.specs.declared.scan.Cursor.{Cursor}
 use Rattle.darray.specs.declared.inner.Sizes.{Sizes}
 use Rattle.darray_positions.proofs.Positions as places
@@ -62,7 +62,7 @@ written-none P l = record { spilled = refl; long = refl; holds = holds-none P l;
 pub written-all : (P l₀ l : List ℕ) (o j : ℕ) → j ≡ blocks P → length (indexWords P) ≤ length l₀ → BlocksWritten P l₀ l o j → l ≡ indexWords P ++ drop (length (indexWords P)) l₀
 written-all P l₀ l o j e room w = holds-whole P l₀ l (w .long) room (subst (Holds P l) e (w .holds)) (w .past)
 
-pub shows-rising : (b : Bool) (ws : List ℕ) (len j : ℕ) → j < blocks (positions b ws len) → (a : List ℕ) (z : ℕ) → z ≡ size (positions b ws len) j → Shows (positions b ws len) j a → Rising a z
+pub shows-rising : (b : Bool) (ws : List ℕ) (len j : ℕ) → j < blocks (positions b ws len) → (a : List ℕ) (z : ℕ) → z ≡ size (positions b ws len) j → Shows (positions b ws len) j a → LanesRise a z
 shows-rising b ws len j h a z e is i g =
     let P = positions b ws len in
     let n = index.size-pos P j h in
@@ -159,7 +159,7 @@ module _ (b : Bool) (ws : List ℕ) (len : ℕ) (s : Sizes) (m : ℕ) (w : Writa
       pub spill-is : blockSpill a z ≡ spill (positions b ws len) j
       spill-is = ap (blockSpill a) (size-is j z ez) ∙ flush.spill-block (positions b ws len) j there a stored
 
-      pub rising : Rising a z
+      pub rising : LanesRise a z
       rising = shows-rising b ws len j there a z (size-is j z ez) stored
 
       -- o and k overflow positions

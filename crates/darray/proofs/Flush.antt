@@ -16,7 +16,7 @@ use lib.Seq.{getD-set-same, getD-set-other}
 use Rattle.broadword.specs.Fields.{word}
 use Rattle.broadword.proofs.Fields.{word-same}
 use Rattle.darray_positions.specs.Index.{pos, blocks, size, wide, spill, before, entry, lanes, lane, laneWord, laneWords, overflow, indexWords}
-use Rattle.darray.specs.Pending.{Rising, blockWide, blockSpill, blockEntry, blockLane, blockLaneWord, put, flushed}
+use Rattle.darray.specs.Pending.{LanesRise, blockWide, blockSpill, blockEntry, blockLane, blockLaneWord, put, flushed}
 use Rattle.darray_positions.proofs.Index as index
 use Rattle.darray_positions.proofs.Index.{Holds}
 
@@ -69,7 +69,7 @@ module _ (a : List ℕ) (n : ℕ) where
   unfolding blockLane
   lane-near i h e = rw (lt-ltb (32 * i) n h, e)
 
-  pub near-lt : (i : ℕ) → Rising a n → 32 * i < n → blockWide a n ≡ false → getD a (32 * i) 0 - getD a 0 0 < 65536
+  pub near-lt : (i : ℕ) → LanesRise a n → 32 * i < n → blockWide a n ≡ false → getD a (32 * i) 0 - getD a 0 0 < 65536
   unfolding blockWide
   near-lt i r h e = omega (arith, leb-false 65536 (getD a (n - 1) 0 - getD a 0 0) e, r i h .1)
 

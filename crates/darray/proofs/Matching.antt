@@ -11,6 +11,7 @@ use native.Mathlib.Omega.{arith}
 use borrow.Author.Tests.{eq-eqb, ne-eqb}
 use lib.ListN.{length, getD}
 use lib.Seq.{ext-getD}
+use Rattle.broadword.proofs.Truth.{true-false}
 use Rattle.darray_positions.specs.Index.{blocks, size, spill, before, entry, laneWord, laneWords, overflow, indexWords}
 use Rattle.darray.specs.Pending.{Decides, Matches}
 use Rattle.darray.specs.Queries.{same}
@@ -18,9 +19,6 @@ use Rattle.darray_positions.proofs.Index as index
 use Rattle.darray_positions.proofs.Index.{Holds}
 use Rattle.darray.proofs.Flush as flush
 use Rattle.darray.proofs.Flush.{Shows}
-
-true-false : true ≡ false → ⊥
-true-false e = let z : _≡_ {A = ℕ} 0 1 = cc in omega arith
 
 pub it-is : {A : Type 0} → A → Decides true A
 it-is a = record { yes = λ _. a; no = λ e _. true-false e }

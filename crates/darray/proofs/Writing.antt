@@ -14,7 +14,7 @@ use Rattle.darray_positions.specs.Positions.{positions}
 use Rattle.darray_positions.specs.Index.{indexWords}
 use Rattle.darray_positions.specs.Scan.{Ahead, Inside, lastInBlock}
 use Rattle.darray.specs.Sizes.{Writable}
-use Rattle.darray.specs.Pending.{Loaded, Rising, blockSpill, put, flushed, Flushable, lanesAt, overAt, blockEntry, blockLaneWord}
+use Rattle.darray.specs.Pending.{Loaded, LanesRise, blockSpill, put, flushed, Flushable, lanesAt, overAt, blockEntry, blockLaneWord}
 use Rattle.darray_positions.specs.declared.scan.Cursor.{Cursor}
 use Rattle.darray.specs.declared.inner.Sizes.{Sizes}
 use Rattle.darray_positions.proofs.Index as index
@@ -127,7 +127,7 @@ module _ (b : Bool) (ws : List ℕ) (len : ℕ) (l₀ : List ℕ) (at : ℕ) (s 
         shows : Shows P j a′
         shows = building.loaded-shows b ws len s (length l₀ - at) w j z h ez a′ c loaded
 
-        pub spill-ready : (0 < z) × (z ≤ 1024) × Rising a′ z
+        pub spill-ready : (0 < z) × (z ≤ 1024) × LanesRise a′ z
         spill-ready = (omega (arith, first-there), omega arith, building.rising b ws len s (length l₀ - at) w j z h ez a′ shows)
 
         lanes-is : lanesAt at s j ≡ at + (s .entries + 8 * j)

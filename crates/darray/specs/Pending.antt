@@ -40,8 +40,8 @@ pub record Loadable (f : ℕ → ℕ) (m k size : ℕ) (h : Hit) (table lowest a
 -- ---- a block of the n pending positions in a
 
 -- every 32nd position lies between the first and the last
-abbrev pub Rising : List ℕ → ℕ → Type 0
-Rising a n = (i : ℕ) → 32 * i < n → (getD a 0 0 ≤ getD a (32 * i) 0) × (getD a (32 * i) 0 ≤ getD a (n - 1) 0)
+abbrev pub LanesRise : List ℕ → ℕ → Type 0
+LanesRise a n = (i : ℕ) → 32 * i < n → (getD a 0 0 ≤ getD a (32 * i) 0) × (getD a (32 * i) 0 ≤ getD a (n - 1) 0)
 
 unfoldable pub blockWide : List ℕ → ℕ → Bool
 blockWide a n = leb 65536 (getD a (n - 1) 0 - getD a 0 0)
@@ -77,7 +77,7 @@ flushed a n j lanesAt o overAt l = put (put (set l j (blockEntry a n o)) lanesAt
 pub record Flushable (a : List ℕ) (n j lanesAt o overAt m : ℕ) : Type 0 where
   pub some : 0 < n
   pub few : n ≤ 1024
-  pub rising : Rising a n
+  pub rising : LanesRise a n
   pub entry-room : j < m
   pub lanes-room : lanesAt + (n + 127) / 128 ≤ m
   pub over-room : overAt + blockSpill a n ≤ m
@@ -112,7 +112,7 @@ pub record Matches (a : List ℕ) (n j lanesAt o overAt : ℕ) (l : List ℕ) : 
 pub record Comparing (a : List ℕ) (n : ℕ) (s : Sizes) (j o m : ℕ) : Type 0 where
   pub some : 0 < n
   pub few : n ≤ 1024
-  pub rising : Rising a n
+  pub rising : LanesRise a n
   pub entry-room : j < s .entries
   pub lanes-room : 8 * j + (n + 127) / 128 ≤ (s .lanes + 3) / 4
   pub lanes-fit : s .lanes + 3 < 2 ^ 64

@@ -7,7 +7,7 @@ ghost use Rattle.broadword.specs.Bits.{bit};
 ghost use Rattle.broadword.specs.Places.{select, SelectInByte, Debruijn64};
 ghost use Rattle.bit_words.specs.Vector.{bitOver};
 ghost use Rattle.darray_positions.specs.Scan.{Position, Ahead, Inside, lastInBlock};
-ghost use Rattle.darray.specs.Pending.{Sampled, Loadable, Loaded, Rising, blockWide, blockSpill, blockLane, blockLaneWord, put, flushed, Flushable, lanesAt, overAt, emptied, Decides, Reads, Matches, Comparing, Compares};
+ghost use Rattle.darray.specs.Pending.{Sampled, Loadable, Loaded, LanesRise, blockWide, blockSpill, blockLane, blockLaneWord, put, flushed, Flushable, lanesAt, overAt, emptied, Decides, Reads, Matches, Comparing, Compares};
 use crate::inner::Sizes;
 use bit_words::WORD_LEN;
 use bit_words::word_over;
@@ -183,7 +183,7 @@ pub fn empty() -> Pending
 
 // Whether the block overflows.
 fn overflows(a: &[u64; 1024], n: usize) -> bool
-    requires { ⌜ ((0 < n) × (n ≤ 1024) × Rising (now a) n) ⌝ }
+    requires { ⌜ ((0 < n) × (n ≤ 1024) × LanesRise (now a) n) ⌝ }
     ensures { λ r. ⌜ r ≡ blockWide (now (a .entry)) n ⌝ }
 {
     let last = n - 1;
@@ -192,7 +192,7 @@ fn overflows(a: &[u64; 1024], n: usize) -> bool
 
 // How many of its positions go to the overflow.
 pub fn spill(a: &[u64; 1024], n: usize) -> usize
-    requires { ⌜ ((0 < n) × (n ≤ 1024) × Rising (now a) n) ⌝ }
+    requires { ⌜ ((0 < n) × (n ≤ 1024) × LanesRise (now a) n) ⌝ }
     ensures { λ r. ⌜ r ≡ blockSpill (now (a .entry)) n ⌝ }
 {
     if overflows(a, n) { n } else { 0 }
@@ -207,7 +207,7 @@ fn entry(first: u64, wide: bool, over: usize) -> u64
 
 // The distance of the position 32 i from the first: 65,535 in a block that overflows, and 0 where there is no such position.
 fn lane(a: &[u64; 1024], n: usize, wide: bool, i: usize) -> u64
-    requires { ⌜ ((n ≤ 1024) × (i < 64) × Rising (now a) n × (wide ≡ blockWide (now a) n)) ⌝ }
+    requires { ⌜ ((n ≤ 1024) × (i < 64) × LanesRise (now a) n × (wide ≡ blockWide (now a) n)) ⌝ }
     ensures { λ r. ⌜ ((r ≡ blockLane (now (a .entry)) n i) × (r < 65536)) ⌝ }
 {
     let k = SUBBLOCK_LEN * i;
@@ -222,7 +222,7 @@ fn lane(a: &[u64; 1024], n: usize, wide: bool, i: usize) -> u64
 
 // Four of them, from the low end.
 fn lane_word(a: &[u64; 1024], n: usize, wide: bool, t: usize) -> u64
-    requires { ⌜ ((n ≤ 1024) × (t < 8) × Rising (now a) n × (wide ≡ blockWide (now a) n)) ⌝ }
+    requires { ⌜ ((n ≤ 1024) × (t < 8) × LanesRise (now a) n × (wide ≡ blockWide (now a) n)) ⌝ }
     ensures { λ r. ⌜ r ≡ blockLaneWord (now (a .entry)) n t ⌝ }
 {
     let i = 4 * t;
@@ -233,7 +233,7 @@ fn lane_word(a: &[u64; 1024], n: usize, wide: bool, t: usize) -> u64
 
 // Writes the distances.
 fn put_lanes(a: &[u64; 1024], n: usize, wide: bool, out: &mut [u64], at: usize)
-    requires { ⌜ ((n ≤ 1024) × Rising (now a) n × (wide ≡ blockWide (now a) n) × (at + (n + 127) / 128 ≤ length (now out))) ⌝ }
+    requires { ⌜ ((n ≤ 1024) × LanesRise (now a) n × (wide ≡ blockWide (now a) n) × (at + (n + 127) / 128 ≤ length (now out))) ⌝ }
     ensures { λ _. ⌜ now (out .exit) ≡ put (now (out .entry)) at (blockLaneWord (now (a .entry)) n) ((n + 127) / 128) ⌝ }
 {
     let words = (n + 127) / 128;
@@ -281,7 +281,7 @@ pub fn flush(p: Pending, out: &mut [u64], at: usize, s: Sizes, block: usize, ove
 
 // Whether the words at the place `at` are the distances.
 fn lanes_match(a: &[u64; 1024], n: usize, wide: bool, index: &[u64], at: usize) -> bool
-    requires { ⌜ ((n ≤ 1024) × Rising (now a) n × (wide ≡ blockWide (now a) n) × (at + (n + 127) / 128 ≤ length (now index))) ⌝ }
+    requires { ⌜ ((n ≤ 1024) × LanesRise (now a) n × (wide ≡ blockWide (now a) n) × (at + (n + 127) / 128 ≤ length (now index))) ⌝ }
     ensures { λ r. ⌜ Decides r (Reads (now (index .entry)) at (blockLaneWord (now (a .entry)) n) ((n + 127) / 128)) ⌝ }
 {
     let words = (n + 127) / 128;

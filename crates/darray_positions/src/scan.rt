@@ -1,7 +1,7 @@
 // Positions found word by word: a cursor moves over the words by their counts of ones, so that a position takes the time of the
 // words between, and those between it and the last one found are not visited.
 ghost use mathlib.Core.Path.{_≡_};
-ghost use mathlib.Core.Bool.{cond};
+ghost use mathlib.Core.Bool.{true, cond};
 ghost use Prim.Native.Nat.{_+_, _-_, _*_, _/_, _^_, _≤_, _<_, min};
 ghost use lib.Dec.{leb};
 ghost use lib.ListN.{length, getD};
@@ -115,9 +115,11 @@ fn leap(words: &[u64], over_one: bool, from: Cursor, k: usize, end: usize) -> Cu
     Cursor { word, before }
 }
 
-// Whether the position with the number k lies `FAR` words past the cursor or farther. No answer is wrong: it only picks the faster way.
+// Whether the position with the number k lies `FAR` words past the cursor or farther. Where it does not say so, nothing is promised: it only picks the
+// faster way.
 pub fn is_far(words: &[u64], over_one: bool, from: Cursor, k: usize) -> bool
     requires { ⌜ (Ahead (bitOver «over_one» (now words)) from k × (from .word ≤ length (now words))) ⌝ }
+    ensures { λ r. ⌜ (r ≡ true → count (bitOver «over_one» (now (words .entry))) ((from .word + 1024) * 64) ≤ k) ⌝ }
 {
     let start = from.word;
     if words.len() - start < FAR {

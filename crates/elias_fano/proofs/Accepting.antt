@@ -21,7 +21,7 @@ use Rattle.elias_fano_words.specs.Image.{lowNumber, spilled, highWords, lowWord
 use Rattle.elias_fano_words.specs.Times.{rising, bitWords, timesIn, holds}
 use Rattle.elias_fano_words.proofs.Decode.{times-of, length-high, count-high}
 use Rattle.elias_fano_words.proofs.Holds.{fit-held, length-held}
-use Rattle.elias_fano_words.proofs.Truth.{true-and}
+use Rattle.broadword.proofs.Truth.{true-and}
 use Rattle.elias_fano_words.proofs.Valid.{valid-high}
 use Rattle.elias_fano.specs.Accept.{fit, universe, declared, pushed, ranked, times, accepted, indexLen}
 use Rattle.elias_fano.specs.Opening.{highOf, onesIn, zerosIn, highIn, bitsIn, Headed, Indexes}

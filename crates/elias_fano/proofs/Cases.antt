@@ -10,7 +10,7 @@ use lib.Dec.{eqb, leb, ltb}
 use lib.ListN.{length, drop, replicate}
 use Rattle.errors.specs.Answer.{Answer, value, done, refused}
 use Rattle.elias_fano_words.specs.Sizes.{startLen}
-use Rattle.elias_fano_words.proofs.Truth.{and-true}
+use Rattle.broadword.proofs.Truth.{and-true}
 use Rattle.elias_fano.specs.declared.builder.Builder.{Builder}
 use Rattle.elias_fano.specs.Made.{Made, made, builder, nobody}
 use Rattle.elias_fano.specs.Steps.{tested, newTest, newOf, sound, builderTest, timeTest, filed, pushTest, pushOf, intact, imageOf, imageTest, buildTest, finishedWords, buildOf}

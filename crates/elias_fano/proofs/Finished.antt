@@ -24,7 +24,7 @@ use Rattle.elias_fano_words.specs.Times.{rising, bitWords, timesIn, holds}
 use Rattle.elias_fano_words.proofs.Decode.{length-high}
 use Rattle.elias_fano_words.proofs.Holds.{fit-held, length-held}
 use Rattle.elias_fano_words.proofs.Valid.{valid-high}
-use Rattle.elias_fano_words.proofs.Truth.{and-true}
+use Rattle.broadword.proofs.Truth.{and-true}
 use Rattle.elias_fano.specs.Finishing.{Measurable, zerosOf, onesWords, zerosWords, Planned, Holding, Finishable}
 use Rattle.elias_fano.specs.Steps.{heldWords, heldTimes, intact, imageOf, finishedWords}
 use Rattle.elias_fano.specs.declared.builder.Builder.{Builder}

@@ -16,7 +16,7 @@ use Rattle.elias_fano_words.specs.Image.{highWords, lowWords, highPositions, lo
 use Rattle.elias_fano_words.specs.Times.{rising, bitWords, timesIn}
 use Rattle.darray.proofs.Matching.{same-refl, same-true}
 use Rattle.elias_fano_words.proofs.Decode.{times-of}
-use Rattle.elias_fano_words.proofs.Truth.{and-true, true-and}
+use Rattle.broadword.proofs.Truth.{and-true, true-and}
 use Rattle.elias_fano.specs.Accept.{fit, universe, declared, pushed, ranked, times, accepted}
 
 -- the settings and the list of a record

@@ -7,7 +7,7 @@ use lib.ListN.{take, drop}
 use Rattle.darray_positions.specs.Index.{indexWords}
 use Rattle.darray.specs.Pending.{Decides}
 use Rattle.darray_positions.specs.Positions.{positions}
-use Rattle.elias_fano_words.proofs.Truth.{true-false}
+use Rattle.broadword.proofs.Truth.{true-false}
 use Rattle.elias_fano.specs.Accept.{ranked}
 use Rattle.elias_fano.specs.Opening.{highOf, onesIn, zerosIn, highIn, Indexes}
 

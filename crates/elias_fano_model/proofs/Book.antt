@@ -21,7 +21,7 @@ use Rattle.elias_fano_words.specs.Times.{lastOf, bitWords, timesIn, holds}
 use Rattle.elias_fano_words.proofs.Decode.{times-of}
 use Rattle.elias_fano_words.proofs.Holds.{holds-words}
 use Rattle.elias_fano_words.proofs.Rising.{rising-none, rising-snoc, rising-lt, lastOf-snoc, lastOf-getD}
-use Rattle.elias_fano_words.proofs.Truth.{true-false, true-and}
+use Rattle.broadword.proofs.Truth.{true-false, true-and}
 use Rattle.elias_fano.specs.declared.builder.Builder.{Builder}
 use Rattle.elias_fano.specs.Accept.{accepted}
 use Rattle.elias_fano.specs.Made.{Made, made, builder}

@@ -14,7 +14,7 @@ use Rattle.elias_fano_words.specs.Sizes.{startLen}
 use Rattle.elias_fano_words.specs.Image.{image}
 use Rattle.elias_fano_words.specs.Times.{rising, lastOf}
 use Rattle.elias_fano_words.proofs.Rising.{rising-first, lastOf-snoc}
-use Rattle.elias_fano_words.proofs.Truth.{true-false}
+use Rattle.broadword.proofs.Truth.{true-false}
 use Rattle.elias_fano.specs.Accept.{universe, declared, ranked, times, accepted, partsOf, parts, unopened, openOf, timeOf, selectOf}
 use Rattle.elias_fano.specs.Made.{Made}
 use Rattle.elias_fano.specs.declared.image.Parts.{Parts}

@@ -35,7 +35,7 @@ use Rattle.elias_fano_words.specs.Times.{rising, bitWords, timeIn, times
 use Rattle.elias_fano_words.specs.Checks.{lowBits, InOrder}
 use Rattle.elias_fano_words.proofs.Ordering.{Ordered}
 use Rattle.elias_fano_words.proofs.Rising.{rising-lt, rising-le, rising-pairs}
-use Rattle.elias_fano_words.proofs.Truth.{and-true, true-and}
+use Rattle.broadword.proofs.Truth.{and-true, true-and}
 use Rattle.elias_fano_words.proofs.Encode.{low-lt}
 use Rattle.elias_fano_words.proofs.Ones.{placeOf}
 use Rattle.elias_fano_words.proofs.Decode.{clear-number, low-number, low-words, select-high, count-high, clear-high, length-high, length-words, time-of, times-of}

@@ -12,6 +12,5 @@ pub mod Ordering
 pub mod Pairs
 pub mod Reading
 pub mod Rising
-pub mod Truth
 pub mod Unset
 pub mod Valid

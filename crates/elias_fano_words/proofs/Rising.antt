@@ -12,7 +12,7 @@ use lib.ListN.{length, getD}
 use Rattle.darray_positions.specs.Index.{table}
 use Rattle.darray_positions.proofs.Index.{length-table, getD-table}
 use Rattle.elias_fano_words.specs.Times.{rising, lastFrom, lastOf}
-use Rattle.elias_fano_words.proofs.Truth.{and-true, true-and}
+use Rattle.broadword.proofs.Truth.{and-true, true-and}
 
 -- ---- a test of two parts
 

@@ -3,7 +3,7 @@
 use borrow.Author.Needs.{needs}
 use borrow.Author.Tests.{not-true, not-false}
 use mathlib.Core.Path.{sym, _∙_}
-use Rattle.elias_fano_words.proofs.Truth.{true-false}
+use Rattle.broadword.proofs.Truth.{true-false}
 use Rattle.elias_fano.proofs.Accepting.{accepts, found}
 use Rattle.elias_fano.proofs.Answers as answers
 use Rattle.elias_fano.proofs.image.open.Statement.{statement}
