@@ -135,7 +135,7 @@ module _ (b : Bool) (ws : List ℕ) (len : ℕ) (s : Sizes) (m : ℕ) (w : Writa
         spilled-due false q k g = absurd (omega (arith, index.spill-near (positions b ws len) j (sym q)))
 
     -- where they were loaded
-    pub loaded-shows : (a : List ℕ) (c : Cursor) → Loaded (bitOver b ws) (s .positions) j a c → Shows (positions b ws len) j a
+    pub loaded-shows : (a : List ℕ) (c : Cursor) → Loaded (bitOver b ws) (1024 * j) (min 1024 (s .positions - 1024 * j)) a c → Shows (positions b ws len) j a
     loaded-shows a c l = sampled-shows a (blockWide a z) wide-so stored
       where
         stored : Sampled (bitOver b ws) (1024 * j) z (blockWide a z) a

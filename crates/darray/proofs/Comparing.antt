@@ -96,7 +96,7 @@ module _ (b : Bool) (ws : List ℕ) (len : ℕ) (s : Sizes) (l : List ℕ) (w : 
           → (length a ≡ 1024) × SelectInByte t × Debruijn64 m × Ahead (bitOver b ws) from (1024 * j) × Inside (bitOver b ws) (length ws) (lastInBlock (s .positions) j) × (1024 * j < s .positions)
       load-ready t m r d = (x .long, r, d, x .ahead, building.inside b ws len right (length (indexWords P)) writable j (min 1024 (s .positions - 1024 * j)) h refl (1024 * j) refl, first-there)
 
-      module _ (z : ℕ) (ez : z ≡ min 1024 (s .positions - 1024 * j)) (a′ : List ℕ) (c : Cursor) (y : Loaded (bitOver b ws) (s .positions) j a′ c) where
+      module _ (z : ℕ) (ez : z ≡ min 1024 (s .positions - 1024 * j)) (a′ : List ℕ) (c : Cursor) (y : Loaded (bitOver b ws) (1024 * j) (min 1024 (s .positions - 1024 * j)) a′ c) where
         stored : Shows P j a′
         stored = building.loaded-shows b ws len right (length (indexWords P)) writable j z h ez a′ c y
 

@@ -3,14 +3,13 @@ use mathlib.Core.Path.{_≡_, sym, _∙_, subst}
 use mathlib.Core.List.{List}
 use mathlib.Core.Bool.{Bool, true, false, cond}
 use mathlib.Core.Logic.{_⊎_, inl, inr, ⊎-elim}
-use Prim.Native.Nat.{ℕ, _+_, _-_, _*_, _≤_, _<_, min}
+use Prim.Native.Nat.{ℕ, _+_, _-_, _*_, _≤_, _<_}
 use native.Mathlib.Decide.{ℕ-discrete, decLt}
 use native.Mathlib.Omega.{arith}
 use lib.ListN.{length, getD, set, length-set}
 use lib.Seq.{getD-set-same, getD-set-other}
-use Rattle.darray_positions.specs.Scan.{Position, Ahead}
-use Rattle.darray.specs.Pending.{Due, Sampled, Loaded, blockWide}
-use Rattle.darray_positions.specs.declared.scan.Cursor.{Cursor}
+use Rattle.darray_positions.specs.Scan.{Position}
+use Rattle.darray.specs.Pending.{Due, Sampled}
 use Rattle.darray_positions.proofs.Blocks.{position-le}
 
 pub due-32 : (w : Bool) (i : ℕ) → Due w (32 * i)
@@ -63,9 +62,3 @@ sampled-rises f k size w a h s = position-le f (k + 0) (k + (size - 1)) (getD a 
 -- where all positions are stored, those that are due are
 pub sampled-all : (f : ℕ → ℕ) (k size : ℕ) (w : Bool) (a : List ℕ) → Sampled f k size true a → Sampled f k size w a
 sampled-all f k size w a s = record { long = s .long; stored = λ i l d. s .stored i l tt; last = s .last }
-
-pub loaded : (f : ℕ → ℕ) (n j z : ℕ) → z ≡ min 1024 (n - 1024 * j) → (a : List ℕ) (c : Cursor) → Sampled f (1024 * j) z (blockWide a z) a → Ahead f c (1024 * j + (z - 1)) → Loaded f n j a c
-loaded f n j z e a c s h = record {
-  sampled = subst (λ (x : ℕ). Sampled f (1024 * j) x (blockWide a x) a) e s;
-  next = subst (λ (x : ℕ). Ahead f c (1024 * j + (x - 1))) e h;
-}

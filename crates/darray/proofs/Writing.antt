@@ -120,9 +120,9 @@ module _ (b : Bool) (ws : List ℕ) (len : ℕ) (l₀ : List ℕ) (at : ℕ) (s 
           subst⁻¹ (λ (y : List ℕ). (length a ≡ 1024) × SelectInByte t × Debruijn64 m × Ahead (bitOver b y) from (1024 * j) × Inside (bitOver b y) (length y) (lastInBlock (s .positions) j) × (1024 * j < s .positions)) ev
           (x .long, r, d, x .ahead, building.inside b ws len s (length l₀ - at) w j (min 1024 (s .positions - 1024 * j)) h refl (1024 * j) refl, first-there)
 
-      module _ (z : ℕ) (ez : z ≡ min 1024 (s .positions - 1024 * j)) (a′ : List ℕ) (c : Cursor) (y : Loaded (bitOver b v) (s .positions) j a′ c) where
-        loaded : Loaded (bitOver b ws) (s .positions) j a′ c
-        loaded = subst (λ (u : List ℕ). Loaded (bitOver b u) (s .positions) j a′ c) ev y
+      module _ (z : ℕ) (ez : z ≡ min 1024 (s .positions - 1024 * j)) (a′ : List ℕ) (c : Cursor) (y : Loaded (bitOver b v) (1024 * j) (min 1024 (s .positions - 1024 * j)) a′ c) where
+        loaded : Loaded (bitOver b ws) (1024 * j) (min 1024 (s .positions - 1024 * j)) a′ c
+        loaded = subst (λ (u : List ℕ). Loaded (bitOver b u) (1024 * j) (min 1024 (s .positions - 1024 * j)) a′ c) ev y
 
         shows : Shows P j a′
         shows = building.loaded-shows b ws len s (length l₀ - at) w j z h ez a′ c loaded

@@ -3,12 +3,12 @@
 use mathlib.Core.Path.{_≡_}
 use mathlib.Core.List.{List}
 use mathlib.Core.Bool.{Bool, true, false, cond}
-use Prim.Native.Nat.{ℕ, zero, suc, _+_, _-_, _*_, _/_, _%_, _^_, _≤_, _<_, min}
+use Prim.Native.Nat.{ℕ, zero, suc, _+_, _-_, _*_, _/_, _%_, _^_, _≤_, _<_}
 use lib.Dec.{leb, ltb}
 use lib.ListN.{length, getD, set}
 use Rattle.broadword.specs.Fields.{word}
 use Rattle.broadword.specs.Places.{SelectInByte, Debruijn64}
-use Rattle.darray_positions.specs.Scan.{Position, Ahead, Inside, Hits, lastInBlock}
+use Rattle.darray_positions.specs.Scan.{Position, Ahead, Inside, Hits}
 use Rattle.darray_positions.specs.declared.scan.Cursor.{Cursor}
 use Rattle.darray_positions.specs.declared.scan.Hit.{Hit}
 use Rattle.darray.specs.declared.pending.Pending.{Pending}
@@ -46,10 +46,10 @@ LanesRise a n = (i : ℕ) → 32 * i < n → (getD a 0 0 ≤ getD a (32 * i) 0) 
 unfoldable pub blockWide : List ℕ → ℕ → Bool
 blockWide a n = leb 65536 (getD a (n - 1) 0 - getD a 0 0)
 
--- those of the block j of n positions that its words need were stored, and the cursor is at the word of the last
-pub record Loaded (f : ℕ → ℕ) (n j : ℕ) (a : List ℕ) (c : Cursor) : Type 0 where
-  pub sampled : Sampled f (1024 * j) (min 1024 (n - 1024 * j)) (blockWide a (min 1024 (n - 1024 * j))) a
-  pub next : Ahead f c (lastInBlock n j)
+-- of a block with the `size` positions from the number k on, those that its words need were stored, and the cursor has not passed the word of the last
+pub record Loaded (f : ℕ → ℕ) (k size : ℕ) (a : List ℕ) (c : Cursor) : Type 0 where
+  pub sampled : Sampled f k size (blockWide a size) a
+  pub next : Ahead f c (k + (size - 1))
 
 unfoldable pub blockSpill : List ℕ → ℕ → ℕ
 blockSpill a n = cond (blockWide a n) n 0

@@ -1,7 +1,7 @@
 // The pending positions of a block: those that its words need are stored, and a flush writes them to the index and empties them.
 ghost use mathlib.Core.Path.{_≡_};
 ghost use mathlib.Core.Bool.{true, false, cond};
-ghost use Prim.Native.Nat.{ℕ, _+_, _-_, _*_, _/_, _^_, _≤_, _<_};
+ghost use Prim.Native.Nat.{ℕ, _+_, _-_, _*_, _/_, _^_, _≤_, _<_, min};
 ghost use lib.ListN.{length, getD, replicate};
 ghost use Rattle.broadword.specs.Bits.{bit};
 ghost use Rattle.broadword.specs.Places.{select, SelectInByte, Debruijn64};
@@ -111,7 +111,7 @@ fn load_near(
     size: usize,
 ) -> Cursor
     requires { ⌜ Loadable (bitOver «over_one» (now words)) (length (now words)) k size h (now table) (now lowest) (now a) ⌝ }
-    ensures { λ r. ⌜ (Sampled (bitOver «over_one» (now (words .entry))) k size (blockWide (now (a .exit)) size) (now (a .exit)) × Ahead (bitOver «over_one» (now (words .entry))) r (k + (size - 1))) ⌝ }
+    ensures { λ r. ⌜ Loaded (bitOver «over_one» (now (words .entry))) k size (now (a .exit)) r ⌝ }
 {
     let from = h.cursor;
     let next = sample(&mut *a, table, words, over_one, from, k, size);
@@ -133,7 +133,7 @@ fn load_from(
     size: usize,
 ) -> Cursor
     requires { ⌜ Loadable (bitOver «over_one» (now words)) (length (now words)) k size h (now table) (now lowest) (now a) ⌝ }
-    ensures { λ r. ⌜ (Sampled (bitOver «over_one» (now (words .entry))) k size (blockWide (now (a .exit)) size) (now (a .exit)) × Ahead (bitOver «over_one» (now (words .entry))) r (k + (size - 1))) ⌝ }
+    ensures { λ r. ⌜ Loaded (bitOver «over_one» (now (words .entry))) k size (now (a .exit)) r ⌝ }
 {
     let last = size - 1;
     if is_far(words, over_one, h.cursor, k + last) {
@@ -155,7 +155,7 @@ pub fn load(
     from: Cursor,
 ) -> Cursor
     requires { ⌜ ((length (now a) ≡ 1024) × SelectInByte (now table) × Debruijn64 (now lowest) × Ahead (bitOver «over_one» (now words)) from (1024 * block) × Inside (bitOver «over_one» (now words)) (length (now words)) (lastInBlock n block) × (1024 * block < n)) ⌝ }
-    ensures { λ r. ⌜ Loaded (bitOver «over_one» (now (words .entry))) n block (now (a .exit)) r ⌝ }
+    ensures { λ r. ⌜ Loaded (bitOver «over_one» (now (words .entry))) (1024 * block) (min 1024 (n - 1024 * block)) (now (a .exit)) r ⌝ }
 {
     let k = BLOCK_LEN * block;
     let h = find_near(table, words, over_one, from, k);

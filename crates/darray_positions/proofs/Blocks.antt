@@ -71,12 +71,12 @@ module _ (b : Bool) (ws : List ℕ) (len n : ℕ) (e : n ≡ count (bitOver b ws
 
 -- ---- a full block, by its ends
 
-module _ (b : Bool) (ws : List ℕ) (len j : ℕ) (h : 1024 * j + 1023 < count (bitOver b ws) len) (first last : ℕ) (p : Position (bitOver b ws) (1024 * j) first) (q : Position (bitOver b ws) (1024 * j + 1023) last) (c d : Cursor) (ac : Ahead (bitOver b ws) c (1024 * j)) (ad : Ahead (bitOver b ws) d (1024 * j + 1023)) where
+module _ (b : Bool) (ws : List ℕ) (len j : ℕ) (h : 1024 * j + 1023 < count (bitOver b ws) len) (first last : ℕ) (p : Position (bitOver b ws) (1024 * j) first) (q : Position (bitOver b ws) (1024 * j + 1023) last) (c : Cursor) (a : Ahead (bitOver b ws) c (1024 * j + 1023)) where
   abbrev n : ℕ
   n = count (bitOver b ws) len
 
   ends : Span
-  ends = record { first = first; last = last; from = c; next = d }
+  ends = record { first = first; last = last; next = c }
 
   full : min 1024 (n - 1024 * j) ≡ 1024
   full = omega arith
@@ -86,7 +86,7 @@ module _ (b : Bool) (ws : List ℕ) (len j : ℕ) (h : 1024 * j + 1023 < count (
 
   spans : Spans (bitOver b ws) n j ends
   unfolding ends
-  spans = record { first = p; last = subst (λ (k : ℕ). Position (bitOver b ws) k last) last-number q; from = ac; next = subst (λ (k : ℕ). Ahead (bitOver b ws) d k) last-number ad }
+  spans = record { first = p; last = subst (λ (k : ℕ). Position (bitOver b ws) k last) last-number q; next = subst (λ (k : ℕ). Ahead (bitOver b ws) c k) last-number a }
 
   -- what it spills, with o spilled before it
   pub full-next : (o k : ℕ) → o ≡ before (positions b ws len) j → k ≡ cond (leb 65536 (last - first)) 1024 0 → o + k ≡ before (positions b ws len) (j + 1)

@@ -43,7 +43,7 @@ pub record Reaches (b : Bool) (ws : List ℕ) (from : Cursor) (k end : ℕ) (c :
   pub upto : c .word ≤ end
   pub here : c .word < end → k < c .before + ones (wordOver b (getD ws (c .word) 0)) 64
 
--- the position with the number k, and a cursor at its word
+-- the position with the number k, and a cursor that has not passed its word
 pub record Hits (f : ℕ → ℕ) (k : ℕ) (h : Hit) : Type 0 where
   pub position : Position f k (h .at)
   pub ahead : Ahead f (h .cursor) k
@@ -52,11 +52,10 @@ pub record Hits (f : ℕ → ℕ) (k : ℕ) (h : Hit) : Type 0 where
 abbrev pub lastInBlock : ℕ → ℕ → ℕ
 lastInBlock n j = 1024 * j + (min 1024 (n - 1024 * j) - 1)
 
--- the first and the last position of the block j, and cursors at their words
+-- the first and the last position of the block j, and a cursor that has not passed the word of the last
 pub record Spans (f : ℕ → ℕ) (n j : ℕ) (s : Span) : Type 0 where
   pub first : Position f (1024 * j) (s .first)
   pub last : Position f (lastInBlock n j) (s .last)
-  pub from : Ahead f (s .from) (1024 * j)
   pub next : Ahead f (s .next) (lastInBlock n j)
 
 -- some full blocks of the len bits, what they spill, a cursor that has not passed the next, and the count of the whole words

@@ -10,6 +10,7 @@ ghost use Rattle.broadword.specs.Places.{SelectInByte};
 ghost use Rattle.bit_words.specs.Vector.{wordsFor, bitOver, wordOver};
 ghost use Rattle.darray_positions.specs.Scan.{Position, lastInBlock, Ahead, Inside, Ranging, Reaches, Hits, Spans, FullBlocks};
 use bit_words::WORD_LEN;
+use bit_words::low_bits;
 use bit_words::word_over;
 use broadword::Found;
 use broadword::popcount;
@@ -22,7 +23,7 @@ pub const BLOCK_LEN: usize = 1024;
 pub const SUBBLOCK_LEN: usize = 32;
 
 // A block whose last position lies this far from its first overflows.
-pub const MAX_IN_BLOCK_DISTANCE: u64 = 1 << 16;
+const MAX_IN_BLOCK_DISTANCE: u64 = 1 << 16;
 
 // A block that is spread over as many words overflows, or nearly.
 const FAR: usize = 1024;
@@ -33,17 +34,16 @@ pub struct Cursor {
     pub before: usize,
 }
 
-// A position, and a cursor at its word.
+// A position, and a cursor at its word. The contracts promise of a cursor that it has not passed the position: where it stands decides only about time.
 pub struct Hit {
     pub at: u64,
     pub cursor: Cursor,
 }
 
-// The ends of a block, and cursors at their words.
+// The ends of a block, and a cursor at the word of the last.
 pub struct Span {
     pub first: u64,
     pub last: u64,
-    pub from: Cursor,
     pub next: Cursor,
 }
 
@@ -65,7 +65,7 @@ pub fn tail_positions(words: &[u64], len: usize, over_one: bool) -> usize
     if left == 0 {
         return 0;
     }
-    popcount(word_over(words, len / WORD_LEN, over_one) % (1u64 << left))
+    popcount(low_bits(word_over(words, len / WORD_LEN, over_one), left))
 }
 
 // The number of positions: those of each whole word, and those of the used part of the last.
@@ -130,7 +130,7 @@ pub fn is_far(words: &[u64], over_one: bool, from: Cursor, k: usize) -> bool
 }
 
 // A cursor at the word of the position with the number k, or at the word `end` if that comes first. It goes word by word: for positions that are near.
-pub fn advance(words: &[u64], over_one: bool, from: Cursor, k: usize, end: usize) -> Cursor
+fn advance(words: &[u64], over_one: bool, from: Cursor, k: usize, end: usize) -> Cursor
     requires { ⌜ (Ahead (bitOver «over_one» (now words)) from k × Ranging from end (length (now words))) ⌝ }
     ensures { λ r. ⌜ Reaches «over_one» (now (words .entry)) from k end r ⌝ }
 {
@@ -156,7 +156,7 @@ fn seek(words: &[u64], over_one: bool, from: Cursor, k: usize, end: usize) -> Cu
 }
 
 // The position with the number k, which stands in the cursor's word.
-pub fn place_at(table: &[u8; 2048], words: &[u64], over_one: bool, c: Cursor, k: usize) -> u64
+fn place_at(table: &[u8; 2048], words: &[u64], over_one: bool, c: Cursor, k: usize) -> u64
     requires { ⌜ (SelectInByte (now table) × Ahead (bitOver «over_one» (now words)) c k × (c .word < length (now words)) × (c .word * 64 ≤ 2 ^ 63) × (k < c .before + ones (wordOver «over_one» (getD (now words) (c .word) 0)) 64)) ⌝ }
     ensures { λ r. ⌜ Position (bitOver «over_one» (now (words .entry))) k r ⌝ }
 {
@@ -180,7 +180,7 @@ pub fn find_near(table: &[u8; 2048], words: &[u64], over_one: bool, from: Cursor
 }
 
 // The position with the number k.
-pub fn find(table: &[u8; 2048], words: &[u64], over_one: bool, from: Cursor, k: usize) -> Hit
+fn find(table: &[u8; 2048], words: &[u64], over_one: bool, from: Cursor, k: usize) -> Hit
     requires { ⌜ (SelectInByte (now table) × Ahead (bitOver «over_one» (now words)) from k × Inside (bitOver «over_one» (now words)) (length (now words)) k) ⌝ }
     ensures { λ r. ⌜ Hits (bitOver «over_one» (now (words .entry))) k r ⌝ }
 {
@@ -197,10 +197,10 @@ pub fn cursor_at(words: &[u64], over_one: bool, k: usize, at: usize) -> Cursor
     ensures { λ r. ⌜ Ahead (bitOver «over_one» (now (words .entry))) r k ⌝ }
 {
     let word = at / WORD_LEN;
-    let below = word_over(words, word, over_one) % (1u64 << (at % WORD_LEN));
+    let below = popcount(low_bits(word_over(words, word, over_one), at % WORD_LEN));
     Cursor {
         word,
-        before: k - popcount(below),
+        before: k - below,
     }
 }
 
@@ -243,13 +243,17 @@ pub fn ends(
 {
     let k = BLOCK_LEN * block;
     let a = find(table, words, over_one, from, k);
-    let from = a.cursor;
-    let b = find(table, words, over_one, from, k + (block_size(n, block) - 1));
+    let b = find(
+        table,
+        words,
+        over_one,
+        a.cursor,
+        k + (block_size(n, block) - 1),
+    );
     let next = b.cursor;
     Span {
         first: a.at,
         last: b.at,
-        from,
         next,
     }
 }

@@ -7,7 +7,7 @@ use lib.ListN.{length}
 use Rattle.bit_words.specs.Vector.{bitOver}
 use Rattle.darray_positions.specs.Scan.{Inside}
 use Rattle.darray_positions.proofs.Blocks as block
-use Rattle.darray.proofs.Sampling as sampling
+use Rattle.darray.specs.Pending.{Loaded}
 use borrow.Author.Needs.{needs}
 use Rattle.darray.proofs.pending.load.Statement.{statement}
 use Rattle.darray.proofs.pending.load.Tie as tie
@@ -40,7 +40,7 @@ load-from-requires c κs =
 returns : tie.Need-returns
 returns c =
     let s = c .before .before .before .before .before in
-    sampling.loaded (bitOver (s .args .over-one) (s .args .words .now)) (s .args .n) (s .args .block) (c .before .block-size .result) (c .before .block-size .ensures) (c .load-from .last .0) (c .load-from .result) (c .load-from .ensures .0) (c .load-from .ensures .1)
+    subst (λ (z : ℕ). Loaded (bitOver (s .args .over-one) (s .args .words .now)) (1024 * s .args .block) z (c .load-from .last .0) (c .load-from .result)) (c .before .block-size .ensures) (c .load-from .ensures)
 
 pub load-spec : {M : Type 1} → statement M
 load-spec =

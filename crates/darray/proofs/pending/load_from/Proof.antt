@@ -50,7 +50,10 @@ returns : tie.Need-returns
 returns c =
     let s = c .before .before .before .before .before .before .before in
     let a = c .before .before .fill .last .0 in
-    (sampling.sampled-all (bitOver (s .args .over-one) (s .args .words .now)) (s .args .k) (s .args .size) (blockWide a (s .args .size)) a (c .before .before .fill .ensures), c .cursor-at .ensures)
+    record {
+      sampled = sampling.sampled-all (bitOver (s .args .over-one) (s .args .words .now)) (s .args .k) (s .args .size) (blockWide a (s .args .size)) a (c .before .before .fill .ensures);
+      next = c .cursor-at .ensures;
+    }
 
 load-near-requires : tie.Need-load-near-requires
 load-near-requires c κs = search needs

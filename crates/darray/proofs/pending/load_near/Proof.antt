@@ -36,14 +36,20 @@ returns : tie.Need-returns
 returns c =
     let s = c .before .before .before .before .before .before .before .before .before .before in
     let a = c .fill .last .0 in
-    (sampling.sampled-all (bitOver (s .args .over-one) (s .args .words .now)) (s .args .k) (s .args .size) (blockWide a (s .args .size)) a (c .fill .ensures), c .before .before .before .before .before .before .sample .ensures .1)
+    record {
+      sampled = sampling.sampled-all (bitOver (s .args .over-one) (s .args .words .now)) (s .args .k) (s .args .size) (blockWide a (s .args .size)) a (c .fill .ensures);
+      next = c .before .before .before .before .before .before .sample .ensures .1;
+    }
 
 returns-2 : tie.Need-returns-2
 unfolding blockWide
 returns-2 c =
     let s = c .before .before .before .before .before .before .before .before in
     let e = c .before .before .before .before .sample in
-    (subst (λ (w : Bool). Sampled (bitOver (s .args .over-one) (s .args .words .now)) (s .args .k) (s .args .size) w (e .last .0)) (sym (c .if1 .left) ∙ c .before .is-wide .ensures) (e .ensures .0), e .ensures .1)
+    record {
+      sampled = subst (λ (w : Bool). Sampled (bitOver (s .args .over-one) (s .args .words .now)) (s .args .k) (s .args .size) w (e .last .0)) (sym (c .if1 .left) ∙ c .before .is-wide .ensures) (e .ensures .0);
+      next = e .ensures .1;
+    }
 
 pub load-near-spec : {M : Type 1} → statement M
 load-near-spec =

@@ -29,20 +29,19 @@ add-find c = search needs
 
 find-requires-2 : tie.Need-find-requires-2
 find-requires-2 c κs =
-    let p = c .before .before .before .before .pre in
-    let a = c .before .before .before .before .args in
-    let e : lastInBlock (a .n) (a .block) ≡ 1024 * a .block + (c .block-size .result - 1) = ap (λ (s : ℕ). 1024 * a .block + (s - 1)) (sym (c .block-size .ensures)) in
-    (p .0, blocks.ahead-le _ _ _ _ (omega arith) (c .before .before .find .ensures .ahead), blocks.inside-le _ _ _ _ (omega arith) (p .2))
+    let s = c .before .before .before in
+    let e : lastInBlock (s .args .n) (s .args .block) ≡ 1024 * s .args .block + (c .block-size .result - 1) = ap (λ (x : ℕ). 1024 * s .args .block + (x - 1)) (sym (c .block-size .ensures)) in
+    (s .pre .0, blocks.ahead-le _ _ _ _ (omega arith) (c .before .find .ensures .ahead), blocks.inside-le _ _ _ _ (omega arith) (s .pre .2))
 
 returns : tie.Need-returns
 returns c =
-    let a = c .before .before .before .before .before .before .args in
-    let e : 1024 * a .block + (c .before .before .block-size .result - 1) ≡ lastInBlock (a .n) (a .block) = ap (λ (s : ℕ). 1024 * a .block + (s - 1)) (c .before .before .block-size .ensures) in
-    let h = subst (λ (k : ℕ). Hits (bitOver (a .over-one) (a .words .now)) k (c .before .find2 .result)) e (c .before .find2 .ensures) in
+    let s = c .before .before .before .before .before in
+    let z = c .before .before .block-size in
+    let e : 1024 * s .args .block + (z .result - 1) ≡ lastInBlock (s .args .n) (s .args .block) = ap (λ (x : ℕ). 1024 * s .args .block + (x - 1)) (z .ensures) in
+    let h = subst (λ (k : ℕ). Hits (bitOver (s .args .over-one) (s .args .words .now)) k (c .before .find2 .result)) e (c .before .find2 .ensures) in
     record {
-      first = c .before .before .before .before .find .ensures .position;
+      first = c .before .before .before .find .ensures .position;
       last = h .position;
-      from = c .before .before .before .before .find .ensures .ahead;
       next = h .ahead;
     }
 

@@ -103,7 +103,7 @@ next c =
     let l = c .before .before .before .before .before .before .before .loop in
     block.full-next (a .over-one) (a .words .now) (a .len) (l .j) (omega (arith, there c, count-mono (bitOver (a .over-one) (a .words .now)) (a .len / 64 * 64) (a .len) (omega arith)))
     (c .before .before .place-at .result) (c .before .place-at2 .result) (c .before .before .place-at .ensures) (c .before .place-at2 .ensures)
-    (c .before .before .before .before .before .before .seek .result) (c .before .before .before .before .before .seek2 .result) (c .before .before .before .before .before .before .seek .ensures .ahead) (c .before .before .before .before .before .seek2 .ensures .ahead)
+    (c .before .before .before .before .before .seek2 .result) (c .before .before .before .before .before .seek2 .ensures .ahead)
     (l .overflow) (c .spilled .result) (l .inv .0) (c .spilled .ensures)
 
 add-overflow : tie.Need-add-overflow Inv-loop μ-loop
