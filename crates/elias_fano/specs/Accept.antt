@@ -9,7 +9,7 @@ use Rattle.errors.specs.Answer.{Answer, value, none, refused}
 use Rattle.errors.specs.Refusal.{numberOf}
 use Rattle.bit_words.specs.Vector.{wordsFor}
 use Rattle.darray.specs.Queries.{same}
-use Rattle.elias_fano_words.specs.Sizes.{lowLen, highLen}
+use Rattle.elias_fano_words.specs.Sizes.{lowLen, highLen, lowAt}
 use Rattle.elias_fano_words.specs.Image.{image}
 use Rattle.elias_fano_words.specs.Times.{rising, timesIn}
 use Rattle.elias_fano.specs.declared.image.Parts.{Parts}
@@ -49,9 +49,6 @@ accepted i = fit (universe i) (declared i) (times i) && same i (image (universe 
 -- the words of an index over k positions, of which `over` are in the overflow list
 abbrev pub indexLen : ℕ → ℕ → ℕ
 indexLen k over = (k + 1023) / 1024 + ((k + 31) / 32 + 3) / 4 + over
-
-abbrev pub lowAt : ℕ → ℕ → ℕ
-lowAt u n = 6 + wordsFor (highLen u n)
 
 abbrev pub onesAt : ℕ → ℕ → ℕ → ℕ
 onesAt u n m = lowAt u n + wordsFor (m * lowLen u n)

@@ -12,6 +12,7 @@ use Rattle.darray.specs.Sizes.{Sized}
 use Rattle.elias_fano_words.specs.Sizes.{lowLen, highLen, startLen}
 use Rattle.elias_fano.specs.declared.builder.Builder.{Builder}
 use Rattle.elias_fano.specs.declared.finish.Plan.{Plan}
+use Rattle.elias_fano.specs.Accept.{onesAt}
 use Rattle.elias_fano.specs.Steps.{sound, intact, imageOf}
 
 -- bits without padding, that an index is measured of
@@ -48,5 +49,5 @@ pub record Holding (b : Builder) (w : List ℕ) : Type 0 where
 pub record Finishable (b : Builder) (c : Bool) (p : Plan) (w : List ℕ) : Type 0 where
   pub holding : Holding b w
   pub planned : Planned c (take (wordsFor (highLen (b .universe) (b .«num_vals»))) (drop 6 w)) (highLen (b .universe) (b .«num_vals»))
-      (6 + wordsFor (highLen (b .universe) (b .«num_vals»)) + wordsFor (b .«num_pushed» * lowLen (b .universe) (b .«num_vals»))) p
+      (onesAt (b .universe) (b .«num_vals») (b .«num_pushed»)) p
   pub long : p .end ≡ length (imageOf b c w)

@@ -7,7 +7,7 @@ use lib.Dec.{eqb, leb, ltb}
 use lib.ListN.{length, take, drop, replicate}
 use Rattle.errors.specs.Answer.{Answer, value, none, done, refused}
 use Rattle.bit_words.specs.Vector.{wordsFor, overwrite}
-use Rattle.elias_fano_words.specs.Sizes.{lowLen, highLen, startLen}
+use Rattle.elias_fano_words.specs.Sizes.{lowLen, lowAt, highLen, startLen}
 use Rattle.elias_fano_words.specs.Image.{image}
 use Rattle.elias_fano_words.specs.Times.{lastOf, timesIn, holds}
 use Rattle.elias_fano.specs.declared.builder.Builder.{Builder}
@@ -68,7 +68,7 @@ pushTest b t k = builderTest b k (timeTest b t)
 unfoldable pub filed : ℕ → ℕ → ℕ → ℕ → List ℕ → List ℕ
 filed u n m t w =
     overwrite (overwrite w (64 * 6 + (t / 2 ^ lowLen u n + m)) 1 1)
-    (64 * (6 + wordsFor (highLen u n)) + m * lowLen u n) (lowLen u n) (t % 2 ^ lowLen u n)
+    (64 * lowAt u n + m * lowLen u n) (lowLen u n) (t % 2 ^ lowLen u n)
 
 unfoldable pub pushOf : Builder → ℕ → List ℕ → Made
 pushOf b t w =

@@ -13,10 +13,14 @@ lowLen u n = orElse (last (bit (u / n)) 64) 0
 unfoldable pub highLen : ℕ → ℕ → ℕ
 highLen u n = n + 2 + u / 2 ^ lowLen u n
 
+-- the word at which the low bits begin: after the header and the high words
+abbrev pub lowAt : ℕ → ℕ → ℕ
+lowAt u n = 6 + wordsFor (highLen u n)
+
 -- how many words a start zeroes
 unfoldable pub startLen : ℕ → ℕ → ℕ
-startLen u n = 6 + wordsFor (highLen u n) + wordsFor (n * lowLen u n)
+startLen u n = lowAt u n + wordsFor (n * lowLen u n)
 
--- all three, and the word at which the low bits begin
+-- all four
 abbrev pub sizesOf : ℕ → ℕ → Sizes
-sizesOf u n = record { «low_len» = lowLen u n; «high_len» = highLen u n; «low_at» = 6 + wordsFor (highLen u n); «start_len» = startLen u n }
+sizesOf u n = record { «low_len» = lowLen u n; «high_len» = highLen u n; «low_at» = lowAt u n; «start_len» = startLen u n }

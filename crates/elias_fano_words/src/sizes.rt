@@ -2,7 +2,7 @@
 ghost use mathlib.Core.Path.{_≡_};
 ghost use Prim.Native.Nat.{_<_, _≤_};
 ghost use Rattle.elias_fano_words.specs.Sizes.{lowLen, sizesOf};
-use bit_words::WORD_LEN;
+use bit_words::words_for;
 use broadword::Found;
 use broadword::msb;
 
@@ -36,11 +36,11 @@ pub fn of_record(universe: u64, num_vals: u64) -> Sizes
 {
     let low = low_len(universe, num_vals);
     let high = num_vals as usize + 2 + (universe >> low) as usize;
-    let low_at = 6 + (high + 63) / WORD_LEN;
+    let low_at = 6 + words_for(high);
     Sizes {
         low_len: low,
         high_len: high,
         low_at,
-        start_len: low_at + (num_vals as usize * low + 63) / WORD_LEN,
+        start_len: low_at + words_for(num_vals as usize * low),
     }
 }

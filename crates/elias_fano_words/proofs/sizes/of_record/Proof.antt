@@ -1,7 +1,7 @@
 -- `elias_fano_words::sizes::of_record` meets its contract.
 -- Assumes nothing.
 use borrow.Author.Needs.{needs}
-use mathlib.Core.Path.{ap}
+use mathlib.Core.Path.{ap, ap₂, _∙_}
 use Prim.Native.Nat.{ℕ, _+_, _*_, _/_, _^_, _≤_}
 use native.Mathlib.Omega.{arith}
 use Rattle.bit_words.specs.Vector.{wordsFor}
@@ -29,27 +29,35 @@ low-few c = let s = c .before in bounds.low-product (s .args .universe) (s .args
 add-high-2 : tie.Need-add-high-2
 add-high-2 c = let h = high-few c in record { fits = omega arith }
 
+words-for-requires : tie.Need-words-for-requires
+words-for-requires c κs = search needs
+
 add-low-at : tie.Need-add-low-at
-add-low-at c = let h = high-few c in record { fits = omega arith }
+add-low-at c = let h = high-few (c .before) in let e = c .words-for .ensures in record { fits = omega arith }
 
-add-low-at-2 : tie.Need-add-low-at-2
-add-low-at-2 c = let h = high-few c in record { fits = omega arith }
+mul-words-for : tie.Need-mul-words-for
+mul-words-for c = let l = low-few (c .before) in record { fits = omega arith }
 
-mul-t10 : tie.Need-mul-t10
-mul-t10 c = let l = low-few c in record { fits = omega arith }
+words-for-requires-2 : tie.Need-words-for-requires-2
+words-for-requires-2 c κs = search needs
 
-add-t6 : tie.Need-add-t6
-add-t6 c = let l = low-few c in record { fits = omega arith }
-
-add-t12 : tie.Need-add-t12
-add-t12 c = let h = high-few c in let l = low-few c in record { fits = omega arith }
+add-t11 : tie.Need-add-t11
+add-t11 c =
+    let h = high-few (c .before .before) in
+    let l = low-few (c .before .before) in
+    let e = c .before .words-for .ensures in
+    let d = c .words-for2 .ensures in
+    record { fits = omega arith }
 
 returns : tie.Need-returns
 unfolding highLen startLen
 returns c =
-    let u : ℕ = c .before .args .universe in
-    let n : ℕ = c .before .args .num-vals in
-    ap (λ (l : ℕ). record { «low_len» = l; «high_len» = n + 2 + u / 2 ^ l; «low_at» = 6 + wordsFor (n + 2 + u / 2 ^ l); «start_len» = 6 + wordsFor (n + 2 + u / 2 ^ l) + wordsFor (n * l) }) (c .low-len .ensures)
+    let s = c .before .before .before in
+    let u : ℕ = s .args .universe in
+    let n : ℕ = s .args .num-vals in
+    let l : ℕ = c .before .before .low-len .result in
+    ap₂ (λ (a b : ℕ). record { «low_len» = l; «high_len» = n + 2 + u / 2 ^ l; «low_at» = 6 + a; «start_len» = 6 + a + b }) (c .before .words-for .ensures) (c .words-for2 .ensures)
+    ∙ ap (λ (l : ℕ). record { «low_len» = l; «high_len» = n + 2 + u / 2 ^ l; «low_at» = 6 + wordsFor (n + 2 + u / 2 ^ l); «start_len» = 6 + wordsFor (n + 2 + u / 2 ^ l) + wordsFor (n * l) }) (c .before .before .low-len .ensures)
 
 pub of-record-spec : {M : Type 1} → statement M
 of-record-spec =
@@ -59,9 +67,9 @@ of-record-spec =
     add-high
     shr-high
     add-high-2
+    words-for-requires
     add-low-at
-    add-low-at-2
-    mul-t10
-    add-t6
-    add-t12
+    mul-words-for
+    words-for-requires-2
+    add-t11
     returns)
