@@ -18,7 +18,7 @@ use bit_words::bit_word;
 use bit_words::fill;
 use bit_words::find_from;
 use bit_words::is_invalid;
-use bit_words::last_used;
+use bit_words::last_upto;
 use bit_words::low_bits;
 use bit_words::rank_words;
 use bit_words::repeated;
@@ -26,7 +26,6 @@ use bit_words::window;
 use bit_words::with_bit;
 use bit_words::words_for;
 use broadword::Found;
-use broadword::msb;
 use broadword::select_in_byte_table;
 use errors::Refusal;
 
@@ -149,20 +148,10 @@ pub fn predecessor1(words: &[u64], len: usize, pos: usize) -> Place
     if len <= pos {
         return Place::Nothing;
     }
-    let at = pos / WORD_LEN;
-    let low = low_bits(words[at], pos % WORD_LEN + 1);
-    if let Found::At(bit) = msb(low) {
-        return Place::At(at * WORD_LEN + bit);
+    match last_upto(words, pos) {
+        Found::At(place) => Place::At(place),
+        Found::Nothing => Place::Nothing,
     }
-    let n = last_used(words, at);
-    if n == 0 {
-        return Place::Nothing;
-    }
-    let i = n - 1;
-    if let Found::At(bit) = msb(words[i]) {
-        return Place::At(i * WORD_LEN + bit);
-    }
-    Place::Nothing
 }
 
 // The used words are written whole: `bit` at every place below len, and 0 past it.

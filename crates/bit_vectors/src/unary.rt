@@ -43,7 +43,7 @@ pub struct Stepped {
 }
 
 // The walk that stands on the place `from` and has not taken it.
-fn walk_from(words: &[u64], from: usize) -> Unary
+pub fn walk_from(words: &[u64], from: usize) -> Unary
     requires { ⌜ from / 64 < length (now words) ⌝ }
     ensures { λ r. ⌜ r ≡ record { position = from; from = from; buf = getD (now (words .entry)) (from / 64) 0 / 2 ^ (from % 64) * 2 ^ (from % 64) } ⌝ }
 {

@@ -10,12 +10,13 @@ use lib.Pow.{pow-pos, pow-mono}
 use Rattle.broadword.specs.Bits.{bit}
 use Rattle.broadword.specs.Fields.{digit, word}
 use Rattle.broadword.specs.Places.{last}
+use Rattle.broadword.specs.declared.Found.{Found}
 use Rattle.broadword.specs.declared.Found.the-variants.{At, Nothing}
 use Rattle.broadword.proofs.Count.{bit-le, bit-mod, bit-above}
 use Rattle.broadword.proofs.Fields.{word-digits, word-same}
 use Rattle.broadword.proofs.Find.{last-is, last-nothing, last-at, last-none}
 use Rattle.bit_words.specs.Vector.{bitAt}
-use Rattle.bit_words.specs.Inner.{Ending}
+use Rattle.bit_words.specs.Inner.{Ending, Within, placeIn}
 use Rattle.bit_words.proofs.Runs.{bit-digit-1, bitAt-word, bitAt-le}
 
 -- a bit that is not 1 is 0
@@ -108,3 +109,28 @@ module _ (ws : List ℕ) (pos : ℕ) where
     pub not-zero : (i : ℕ) → n ≡ suc i → getD ws i 0 < 2 ^ 64 → last (bit (getD ws i 0)) 64 ≡ Nothing → ⊥
     not-zero i en h z =
         end .some i en (no-bits (getD ws i 0) h (λ j l. not-one (bit (getD ws i 0) j) (bit-le (getD ws i 0) j) (last-nothing (bit (getD ws i 0)) 64 z j l)))
+
+-- a place found in a word is one of its 64
+pub last-within : (x : ℕ) (r : Found) → r ≡ last (bit x) 64 → Within r
+last-within x r er t e = last-is (bit x) 64 t (sym er ∙ e) .within
+
+module _ (ws : List ℕ) (pos : ℕ) where
+  -- the word of pos has one
+  pub found-here : (x : ℕ) → x ≡ low ws pos → (r : Found) → r ≡ last (bit x) 64 → (x ≡ 0 → ⊥) → placeIn (pos / 64) r ≡ last (bitAt ws) (pos + 1)
+  found-here x ex (At b) e z = sym (here ws pos b (ap (λ (y : ℕ). last (bit y) 64) (sym ex) ∙ sym e) .1)
+  found-here x ex Nothing e z =
+      let n : last (bit (low ws pos)) 64 ≡ Nothing = ap (λ (y : ℕ). last (bit y) 64) (sym ex) ∙ sym e in
+      let h : low ws pos < 2 ^ 64 = lt-of-lt-of-le (mod-lt (getD ws (pos / 64) 0) (pow-pos (pos % 64 + 1))) (pow-mono (let d : pos % 64 + 1 ≤ 64 = omega arith in d)) in
+      absurd (z (ex ∙ no-bits (low ws pos) h (λ j l. not-one (bit (low ws pos) j) (bit-le (low ws pos) j) (last-nothing (bit (low ws pos)) 64 n j l))))
+
+  module _ (n : ℕ) (z : low ws pos ≡ 0) (end : Ending ws (pos / 64) n) where
+    none-here : last (bit (low ws pos)) 64 ≡ Nothing
+    none-here = ap (λ (x : ℕ). last (bit x) 64) z ∙ last-none (bit 0) 64 (λ j _. bit-above 0 j (pow-pos j))
+
+    pub found-nowhere : n ≡ 0 → Nothing ≡ last (bitAt ws) (pos + 1)
+    found-nowhere e = sym (nowhere ws pos n none-here end e)
+
+    -- the last word before it that is not 0 has it
+    pub found-before : (i : ℕ) → n ≡ suc i → (r : Found) → r ≡ last (bit (getD ws i 0)) 64 → getD ws i 0 < 2 ^ 64 → placeIn i r ≡ last (bitAt ws) (pos + 1)
+    found-before i en (At b) e h = sym (below ws pos n none-here end i b en (sym e) .1)
+    found-before i en Nothing e h = absurd (not-zero ws pos n none-here end i en h (sym e))

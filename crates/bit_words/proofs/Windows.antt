@@ -23,7 +23,7 @@ number-bits x s n =
     ∙ word-digits 1 n (x / 2 ^ s) ∙ ap (λ (m : ℕ). x / 2 ^ s % 2 ^ m) (mul-one n)
 
 -- the lowest of the bits that a number is made of
-pub number-low : (f : ℕ → ℕ) (n m : ℕ) → ((i : ℕ) → f i ≤ 1) → m ≤ n → word 1 f n % 2 ^ m ≡ word 1 f m
+number-low : (f : ℕ → ℕ) (n m : ℕ) → ((i : ℕ) → f i ≤ 1) → m ≤ n → word 1 f n % 2 ^ m ≡ word 1 f m
 number-low f n m h l =
     ap (λ (k : ℕ). word 1 f n % 2 ^ k) (sym (mul-one m)) ∙ sym (word-digits 1 m (word 1 f n))
     ∙ word-same 1 (digit 1 (word 1 f n)) f m (λ i k. digit-word 1 f n (λ j _. omega (arith, h j)) i (lt-of-lt-of-le k l))

@@ -6,11 +6,12 @@ ghost use Prim.Native.Nat.{_+_, _-_, _*_, _/_, _%_, _^_, _<_, _≤_};
 ghost use mathlib.Core.List.{_++_};
 ghost use lib.ListN.{length, getD, take, drop, replicate};
 ghost use Rattle.broadword.specs.Bits.{count};
-ghost use Rattle.broadword.specs.Places.{select};
+ghost use Rattle.broadword.specs.Places.{last, select};
 ghost use Rattle.broadword.specs.Fields.{flag, word};
 ghost use Rattle.bit_words.specs.Vector.{bitAt, bitOver, wordsFor, invalid, wordOver, putBit, appended, overwrite};
 ghost use Rattle.bit_words.specs.Inner.{Skipped, Ending, Appendable, Overwritable, Within, placeIn, Findable};
 use broadword::Found;
+use broadword::msb;
 use broadword::popcount;
 use broadword::select_in_word_by;
 
@@ -179,6 +180,24 @@ pub fn last_used(words: &[u64], end: usize) -> usize
         n = i;
     }
     n
+}
+
+// The place of the last one at or before pos.
+pub fn last_upto(words: &[u64], pos: usize) -> Found
+    requires { ⌜ pos / 64 < length (now words) ⌝ }
+    ensures { λ r. ⌜ r ≡ last (bitAt (now (words .entry))) (pos + 1) ⌝ }
+{
+    let at = pos / WORD_LEN;
+    let low = low_bits(words[at], pos % WORD_LEN + 1);
+    if low != 0 {
+        return place_in(at, msb(low));
+    }
+    let n = last_used(words, at);
+    if n == 0 {
+        return Found::Nothing;
+    }
+    let i = n - 1;
+    place_in(i, msb(words[i]))
 }
 
 // The first n words are set to x.
