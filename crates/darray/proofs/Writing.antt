@@ -54,7 +54,7 @@ module _ (a : List ℕ) (n j x o y at x′ y′ : ℕ) (l : List ℕ) (ex : x′
       ∙ ap (λ (m : List ℕ). put m y (λ i. getD a i 0) (blockSpill a n))
       (drop-put at _ x _ _ ∙ ap (λ (m : List ℕ). put m x (blockLaneWord a n) ((n + 127) / 128)) (drop-set-add at l j (blockEntry a n o)))
 
-  pub flushable-within : (m k : ℕ) → k ≡ at + m → Flushable a n j x o y m → Flushable a n (at + j) x′ o y′ k
+  flushable-within : (m k : ℕ) → k ≡ at + m → Flushable a n j x o y m → Flushable a n (at + j) x′ o y′ k
   flushable-within m k e f = record {
     some = f .some;
     few = f .few;
