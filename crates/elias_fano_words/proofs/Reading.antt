@@ -77,9 +77,9 @@ pub number-bit : (f : ℕ → ℕ) (n i : ℕ) → ((j : ℕ) → f j ≤ 1) →
 number-bit f n i h l = sym (bit-digit-1 (word 1 f n) i) ∙ digit-word 1 f n (λ j _. omega (arith, h j)) i l
 
 -- no low bits
-pub low-none : (low : List ℕ) (l k : ℕ) → l ≡ 0 → lowBits l low k ≡ 0
+pub low-none : (low : List ℕ) (l pos : ℕ) → l ≡ 0 → word 1 (λ i. bitAt low (pos + i)) l ≡ 0
 unfolding word
-low-none low l k z = ap (λ (n : ℕ). lowBits n low k) z
+low-none low l pos z = ap (word 1 (λ i. bitAt low (pos + i))) z
 
 -- l ones, as a program makes them
 abbrev mask : ℕ → ℕ
@@ -91,15 +91,15 @@ masked l x h = ap (λ (p : ℕ). bitAnd x (p - 1)) (one-shl l h) ∙ and-mask x 
 pub mask-fits : (l : ℕ) → l < 64 → 1 ≤ (1 * 2 ^ l) % 2 ^ 64
 mask-fits l h = subst⁻¹ (λ (x : ℕ). 1 ≤ x) (one-shl l h) (pow-pos l)
 
-pub low-masked : (low : List ℕ) (l k v : ℕ) → l < 64 → k * l + l ≤ length low * 64 → From low (k * l) v → bitAnd v (mask l) ≡ lowBits l low k
-low-masked low l k v few h g = masked l v few ∙ g l (omega arith) h
+pub low-masked : (low : List ℕ) (l pos v : ℕ) → l < 64 → pos + l ≤ length low * 64 → From low pos v → bitAnd v (mask l) ≡ word 1 (λ i. bitAt low (pos + i)) l
+low-masked low l pos v few h g = masked l v few ∙ g l (omega arith) h
 
 module _ (low : List ℕ) (l k : ℕ) (few : l < 64) (held : Held l low (k + 2)) where
   next-at : (i : ℕ) → k * l + l + i ≡ suc k * l + i
   next-at i = ap (λ (x : ℕ). x + i) (sym (suc-mul k l))
 
   first-low : (v : ℕ) → From low (k * l) v → bitAnd v (mask l) ≡ lowBits l low k
-  first-low v = low-masked low l k v few (omega (arith, held .room))
+  first-low v = low-masked low l (k * l) v few (omega (arith, held .room))
 
   next-low : (v : ℕ) → From low (k * l + l) v → bitAnd v (mask l) ≡ lowBits l low (suc k)
   next-low v h =

@@ -53,15 +53,23 @@ fn bits_at(words: &[u64], pos: usize) -> u64
     (words[at] >> shift) | ((words[next] << 1) << (WORD_LEN - 1 - shift))
 }
 
+// The l bits from pos on.
+pub fn low_from(low: &[u64], l: usize, pos: usize) -> u64
+    requires { ⌜ ((l < 64) × (pos + l ≤ length (now low) * 64)) ⌝ }
+    ensures { λ r. ⌜ r ≡ word 1 (λ i. bitAt (now (low .entry)) (pos + i)) l ⌝ }
+{
+    if l == 0 {
+        return 0;
+    }
+    bits_at(low, pos) & ((1 << l) - 1)
+}
+
 // The l low bits with the number k.
 pub fn low_at(low: &[u64], l: usize, k: usize) -> u64
     requires { ⌜ ((l < 64) × Held l (now low) (k + 1)) ⌝ }
     ensures { λ r. ⌜ r ≡ lowBits l (now (low .entry)) k ⌝ }
 {
-    if l == 0 {
-        return 0;
-    }
-    bits_at(low, k * l) & ((1 << l) - 1)
+    low_from(low, l, k * l)
 }
 
 // Whether the l low bits with the number k do not exceed the next ones. Up to 32 bits, one reading has both.
