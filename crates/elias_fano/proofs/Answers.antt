@@ -1,4 +1,4 @@
--- The answers of opening and of select, case by case. Assumes nothing.
+-- The answers of opening and of the questions, case by case. Assumes nothing.
 use mathlib.Core.Path.{_≡_, refl, sym, ap, _∙_, subst}
 use mathlib.Core.List.{List}
 use mathlib.Core.Bool.{Bool, true, false, cond}
@@ -12,7 +12,8 @@ use Rattle.elias_fano.specs.declared.image.Header.the-variants as head
 use Rattle.elias_fano.specs.declared.image.Opened.{Opened}
 use Rattle.elias_fano.specs.declared.image.Opened.the-variants as opened
 use Rattle.elias_fano.specs.declared.image.Parts.{Parts}
-use Rattle.elias_fano.specs.Accept.{accepted, partsOf, parts, unopened, ofOpened, openOf, timeOf, selectOf}
+use Rattle.elias_fano.specs.Accept.{accepted, partsOf, parts, unopened, ofOpened, openOf}
+use Rattle.elias_fano.specs.Ask.{Question, asked, query}
 use Rattle.elias_fano.specs.Opening.{Headed, Heads}
 
 module _ (i : List ℕ) where
@@ -38,7 +39,7 @@ module _ (i : List ℕ) where
   unfolding openOf
   open-image p e h = ap parts e ∙ sym (ap (λ (b : Bool). cond b (parts (partsOf i)) (unopened 7)) h)
 
-  -- ---- select
+  -- ---- a question
 
   image-by : (b : Bool) (p q : Parts) → parts p ≡ cond b (parts q) (unopened 7) → (b ≡ true) × (p ≡ q)
   image-by true p q e = (refl, cc)
@@ -52,10 +53,10 @@ module _ (i : List ℕ) where
   unfolding openOf
   is-open r p er e = image-by (accepted i) p (partsOf i) (sym (ap ofOpened e) ∙ er)
 
-  pub select-refused : (r : Opened) (x : Refusal) (k : ℕ) → ofOpened r ≡ openOf i → r ≡ opened.Refused x → refused (numberOf x) ≡ selectOf i k
-  unfolding openOf selectOf
-  select-refused r x k er e = refused-by (accepted i) (numberOf x) (partsOf i) (timeOf i k) (sym (ap ofOpened e) ∙ er)
+  pub query-refused : (r : Opened) (x : Refusal) (q : Question) → ofOpened r ≡ openOf i → r ≡ opened.Refused x → refused (numberOf x) ≡ query i q
+  unfolding openOf query
+  query-refused r x q er e = refused-by (accepted i) (numberOf x) (partsOf i) (asked i q) (sym (ap ofOpened e) ∙ er)
 
-  pub select-time : (a : Answer) (j : ℕ) → accepted i ≡ true → a ≡ timeOf i j → a ≡ selectOf i j
-  unfolding selectOf
-  select-time a j h e = e ∙ sym (ap (λ (b : Bool). cond b (timeOf i j) (refused 7)) h)
+  pub query-opened : (a : Answer) (q : Question) → accepted i ≡ true → a ≡ asked i q → a ≡ query i q
+  unfolding query
+  query-opened a q h e = e ∙ sym (ap (λ (b : Bool). cond b (asked i q) (refused 7)) h)

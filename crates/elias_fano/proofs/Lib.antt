@@ -2,6 +2,7 @@ pub mod Accepting
 pub mod Answers
 pub mod Cases
 pub mod Filing
+pub mod Filled
 pub mod Finished
 pub mod Heading
 pub mod Images
@@ -11,5 +12,6 @@ pub mod Parts
 pub mod Placing
 pub mod Planning
 pub mod Selecting
+pub mod Spilled
 pub mod Standing
 pub mod Testing

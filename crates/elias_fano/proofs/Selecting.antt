@@ -29,7 +29,8 @@ use Rattle.elias_fano_words.proofs.Decode.{select-high, low-words}
 use Rattle.elias_fano_words.proofs.Ones.{placeOf}
 use Rattle.elias_fano_words.proofs.Rising.{rising-lt}
 use Rattle.elias_fano.specs.declared.image.Parts.{Parts}
-use Rattle.elias_fano.specs.Accept.{universe, declared, pushed, ranked, times, accepted, partsBy, partsOf, timeOf}
+use Rattle.elias_fano.specs.Accept.{universe, declared, pushed, ranked, times, accepted, partsBy, partsOf}
+use Rattle.elias_fano.specs.Ask.{Select, nth, ask, asked}
 use Rattle.elias_fano.specs.Opening.{highIn}
 use Rattle.elias_fano.proofs.Accepting.{found}
 use Rattle.elias_fano.proofs.Images as images
@@ -64,11 +65,11 @@ module _ (i : List ℕ) (ok : accepted i ≡ true) (p : Parts) (ep : p ≡ parts
   unfolding partsBy
   pushed-is = ap (λ (q : Parts). q .«num_pushed») ep ∙ sym pushed-times
 
-  low-len-is : p .«low_len» ≡ l
+  pub low-len-is : p .«low_len» ≡ l
   unfolding partsBy
   low-len-is = ap (λ (q : Parts). q .«low_len») ep
 
-  high-len-is : p .«high_len» ≡ highLen u n
+  pub high-len-is : p .«high_len» ≡ highLen u n
   unfolding partsBy
   high-len-is = ap (λ (q : Parts). q .«high_len») ep
 
@@ -130,7 +131,7 @@ module _ (i : List ℕ) (ok : accepted i ≡ true) (p : Parts) (ep : p ≡ parts
     unfolding bitOver
     over-one = refl
 
-    place-is : select (bitOver true (take (p .«low_at» - 6) (drop 6 i))) (p .«high_len») k ≡ At (placeOf l T k)
+    pub place-is : select (bitOver true (take (p .«low_at» - 6) (drop 6 i))) (p .«high_len») k ≡ At (placeOf l T k)
     place-is =
         ap (λ (f : ℕ → ℕ). select f (p .«high_len») k) over-one ∙ ap₂ (λ (w : List ℕ) (j : ℕ). select (bitAt w) j k) high-is high-len-is
         ∙ select-high u n T (images.is-fit i ok .rises) (images.is-fit i ok .few) k in-list
@@ -144,9 +145,14 @@ module _ (i : List ℕ) (ok : accepted i ≡ true) (p : Parts) (ep : p ≡ parts
     pub some-place : (r : Found) → r ≡ select (bitOver true (take (p .«low_at» - 6) (drop 6 i))) (p .«high_len») k → r ≡ Nothing → ⊥
     some-place r er e = at-nothing (placeOf l T k) (sym e ∙ er ∙ place-is)
 
-    pub is-value : (v : ℕ) → v ≡ t → value v ≡ timeOf i k
-    unfolding timeOf
+    pub is-value : (v : ℕ) → v ≡ t → value v ≡ asked i (Select k)
+    unfolding ask nth
     is-value v e = ap value e ∙ sym (simp (lt-ltb k (length T) in-list))
+
+    pub lower : (low : ℕ) → low ≡ lowBits (p .«low_len») (take (p .«ones_at» - p .«low_at») (drop (p .«low_at») i)) k → low ≡ t % 2 ^ l
+    lower low el =
+        el ∙ ap₂ (λ (y : ℕ) (w : List ℕ). lowBits y w k) low-len-is (low-is ∙ sym (append-nil (numberWords lw (lowNumber l T))))
+        ∙ low-words l T lw [] k (le-refl lw) in-list
 
     module _ (x : ℕ) (e : select (bitOver true (take (p .«low_at» - 6) (drop 6 i))) (p .«high_len») k ≡ At x) where
       here : x ≡ placeOf l T k
@@ -159,11 +165,6 @@ module _ (i : List ℕ) (ok : accepted i ≡ true) (p : Parts) (ep : p ≡ parts
       upper = let a = here in let d : (y : ℕ) → y + k - k ≡ y = λ y. omega arith in ap (λ (y : ℕ). y - k) a ∙ d (t / 2 ^ l)
 
       module _ (low : ℕ) (el : low ≡ lowBits (p .«low_len») (take (p .«ones_at» - p .«low_at») (drop (p .«low_at») i)) k) where
-        lower : low ≡ t % 2 ^ l
-        lower =
-            el ∙ ap₂ (λ (y : ℕ) (w : List ℕ). lowBits y w k) low-len-is (low-is ∙ sym (append-nil (numberWords lw (lowNumber l T))))
-            ∙ low-words l T lw [] k (le-refl lw) in-list
-
         small : t / 2 ^ l * 2 ^ l < 2 ^ 64
         small = let a = split t l in let b = time-small in omega arith
 
@@ -171,11 +172,11 @@ module _ (i : List ℕ) (ok : accepted i ≡ true) (p : Parts) (ep : p ≡ parts
         shifted = ap₂ (λ (y z : ℕ). (y * 2 ^ z) % 2 ^ 64) upper low-len-is ∙ mod-eq-of-lt {n = t / 2 ^ l * 2 ^ l} {m = 2 ^ 64} small
 
         pub value-is : ((x - k) * 2 ^ p .«low_len») % 2 ^ 64 + low ≡ t
-        value-is = ap₂ (λ (a b : ℕ). a + b) shifted lower ∙ split t l
+        value-is = ap₂ (λ (a b : ℕ). a + b) shifted (lower low el) ∙ split t l
 
         pub value-fits : Fits w64 (((x - k) * 2 ^ p .«low_len») % 2 ^ 64 + low)
         value-fits = record { fits = subst (λ (y : ℕ). y < 2 ^ 64) (sym value-is) time-small }
 
-  pub no-time : (k : ℕ) → p .«num_pushed» ≤ k → none ≡ timeOf i k
-  unfolding timeOf
+  pub no-time : (k : ℕ) → p .«num_pushed» ≤ k → none ≡ asked i (Select k)
+  unfolding ask nth
   no-time k h = sym (simp (le-ltb k (length T) (subst (λ (y : ℕ). y ≤ k) pushed-is h)))

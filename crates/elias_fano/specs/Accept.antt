@@ -15,6 +15,8 @@ use Rattle.elias_fano_words.specs.Times.{rising, timesIn}
 use Rattle.elias_fano.specs.declared.image.Parts.{Parts}
 use Rattle.elias_fano.specs.declared.image.Opened.{Opened}
 use Rattle.elias_fano.specs.declared.image.Opened.the-variants as opened
+use Rattle.elias_fano.specs.declared.image.Number.{Number}
+use Rattle.elias_fano.specs.declared.image.Number.the-variants as num
 use Rattle.elias_fano.specs.declared.image.Value.{Value}
 use Rattle.elias_fano.specs.declared.image.Value.the-variants as val
 
@@ -83,19 +85,17 @@ abbrev pub ofOpened : Opened → Opening
 ofOpened (opened.Image p) = parts p
 ofOpened (opened.Refused e) = unopened (numberOf e)
 
+abbrev pub ofNumber : Number → Answer
+ofNumber (num.Is k) = value k
+ofNumber num.Nothing = none
+ofNumber (num.Refused e) = refused (numberOf e)
+
 abbrev pub ofValue : Value → Answer
 ofValue (val.Is t) = value t
 ofValue val.Nothing = none
 ofValue (val.Refused e) = refused (numberOf e)
 
--- ---- the queries; 7 comes first
+-- ---- opening; 7 comes first
 
 unfoldable pub openOf : List ℕ → Opening
 openOf i = cond (accepted i) (parts (partsOf i)) (unopened 7)
-
--- the time with the number k
-unfoldable pub timeOf : List ℕ → ℕ → Answer
-timeOf i k = cond (ltb k (length (times i))) (value (getD (times i) k 0)) none
-
-unfoldable pub selectOf : List ℕ → ℕ → Answer
-selectOf i k = cond (accepted i) (timeOf i k) (refused 7)

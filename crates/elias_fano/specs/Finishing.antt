@@ -3,13 +3,13 @@
 use mathlib.Core.Path.{_≡_}
 use mathlib.Core.List.{List, []}
 use mathlib.Core.Bool.{Bool, true, false, cond}
-use Prim.Native.Nat.{ℕ, _+_, _*_, _^_, _≤_, _<_}
+use Prim.Native.Nat.{ℕ, _+_, _^_, _≤_, _<_}
 use lib.ListN.{length, take, drop}
 use Rattle.bit_words.specs.Vector.{wordsFor, invalid}
 use Rattle.darray_positions.specs.Index.{indexWords}
 use Rattle.darray_positions.specs.Positions.{positions}
 use Rattle.darray.specs.Sizes.{Sized}
-use Rattle.elias_fano_words.specs.Sizes.{lowLen, highLen, startLen}
+use Rattle.elias_fano_words.specs.Sizes.{highLen, startLen}
 use Rattle.elias_fano.specs.declared.builder.Builder.{Builder}
 use Rattle.elias_fano.specs.declared.finish.Plan.{Plan}
 use Rattle.elias_fano.specs.Accept.{onesAt}

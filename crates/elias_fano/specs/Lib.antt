@@ -1,4 +1,5 @@
 pub mod Accept
+pub mod Ask
 pub mod Finishing
 pub mod Made
 pub mod Opening

@@ -16,7 +16,8 @@ use Rattle.darray.specs.Queries.{same}
 use Rattle.elias_fano_words.specs.Sizes.{lowLen, highLen, startLen}
 use Rattle.elias_fano_words.specs.Image.{highFrom, lowNumber, highWords, lowWords, image}
 use Rattle.elias_fano_words.specs.Times.{rising, bitWords, timeIn, timesIn, holds}
-use Rattle.elias_fano.specs.Accept.{fit, times, accepted, timeOf, selectOf}
+use Rattle.elias_fano.specs.Accept.{fit, times, accepted}
+use Rattle.elias_fano.specs.Ask.{Select, Delta, Rank, Predecessor, Successor, Binsearch, BinsearchRange, nth, gap, below, greatest, smallest, scan, halve, searched, ask, query}
 use Rattle.elias_fano.specs.Made.{Made, made, builder}
 use Rattle.elias_fano.specs.Steps.{tested, newTest, newOf, sound, builderTest, timeTest, filed, pushOf, heldTimes, intact, imageOf, imageTest, buildOf}
 
@@ -25,9 +26,9 @@ pub record Row : Type 0 where
   pub asked : Outcome
   pub says : Outcome
 
--- a query leaves no words
-abbrev ask : Answer → Answer → Row
-ask a s = record { asked = leaves a []; says = leaves s [] }
+-- a question leaves no words
+abbrev row : Answer → Answer → Row
+row a s = record { asked = leaves a []; says = leaves s [] }
 
 -- a call on a builder leaves every word lent
 abbrev call : Made → Answer → List ℕ → Row
@@ -65,22 +66,39 @@ rows t =
     ∷ call (start 20 4) done (replicate 8 0 ++ replicate 8 5)
     ∷ call (reading 20 4 (3 ∷ 4 ∷ 4 ∷ 13 ∷ [])) done (replicate 6 0 ++ (77 ∷ 67 ∷ replicate 8 5))
     ∷ call (finish 20 4 (3 ∷ 4 ∷ 4 ∷ 13 ∷ []) true) (value 12) (four ++ replicate 4 5)
-    ∷ ask (selectOf four 0) (value 3)
-    ∷ ask (selectOf four 1) (value 4)
-    ∷ ask (selectOf four 2) (value 4)
-    ∷ ask (selectOf four 3) (value 13)
-    ∷ ask (selectOf four 4) none
-    ∷ ask (selectOf (four ++ replicate 4 5) 3) (refused 7)
+    ∷ row (query four (Select 0)) (value 3)
+    ∷ row (query four (Select 1)) (value 4)
+    ∷ row (query four (Select 2)) (value 4)
+    ∷ row (query four (Select 3)) (value 13)
+    ∷ row (query four (Select 4)) none
+    ∷ row (query four (Rank 4)) (value 1)
+    ∷ row (query four (Rank 14)) (value 4)
+    ∷ row (query four (Rank 20)) (value 4)
+    ∷ row (query four (Rank 21)) none
+    ∷ row (query four (Predecessor 19)) (value 13)
+    ∷ row (query four (Predecessor 20)) none
+    ∷ row (query four (Successor 5)) (value 13)
+    ∷ row (query four (Successor 14)) none
+    ∷ row (query four (Delta 0)) (value 3)
+    ∷ row (query four (Delta 1)) (value 1)
+    ∷ row (query four (Delta 2)) (value 0)
+    ∷ row (query four (Delta 3)) (value 9)
+    ∷ row (query (0 ∷ 1 ∷ 0 ∷ 0 ∷ 0 ∷ 0 ∷ 0 ∷ []) (Rank 0)) (value 0)
+    ∷ row (query (image 8 64 false (replicate 64 7)) (Binsearch 7)) (value 0)
+    ∷ row (query (image 8 65 false (replicate 65 7)) (Binsearch 7)) (value 32)
+    ∷ row (query (four ++ replicate 4 5) (Select 3)) (refused 7)
     ∷ call (finish (2 ^ 64 - 1) 1 ((2 ^ 64 - 2) ∷ []) false) (value 10) (widest ++ replicate 6 5)
-    ∷ ask (selectOf widest 0) (value (2 ^ 64 - 2))
-    ∷ ask (selectOf ((2 ^ 64 - 1) ∷ 1 ∷ 1 ∷ 0 ∷ 0 ∷ 0 ∷ 4 ∷ 5 ∷ 2 ∷ 0 ∷ []) 0) (refused 7)
+    ∷ row (query widest (Select 0)) (value (2 ^ 64 - 2))
+    ∷ row (query ((2 ^ 64 - 1) ∷ 1 ∷ 1 ∷ 0 ∷ 0 ∷ 0 ∷ 4 ∷ 5 ∷ 2 ∷ 0 ∷ []) (Select 0)) (refused 7)
     ∷ call (start 20 0) (refused 1) (replicate 16 5)
     ∷ call (start 20 16777217) (refused 2) (replicate 16 5)
     ∷ call (newOf 20 4 (replicate 7 5)) (refused 3) (replicate 7 5)
     ∷ call (reading 20 4 (4 ∷ 3 ∷ [])) (refused 4) (replicate 6 0 ++ (2 ∷ 0 ∷ replicate 8 5))
     ∷ call (reading 20 4 (20 ∷ [])) (refused 5) (replicate 8 0 ++ replicate 8 5)
     ∷ call (reading 20 4 (3 ∷ 4 ∷ 4 ∷ 13 ∷ 13 ∷ [])) (refused 6) (replicate 6 0 ++ (77 ∷ 67 ∷ replicate 8 5))
-    ∷ ask (selectOf [] 0) (refused 7)
+    ∷ row (query [] (Select 0)) (refused 7)
+    ∷ row (query (image 20 4 false (3 ∷ 4 ∷ 4 ∷ 13 ∷ [])) (Rank 4)) (refused 8)
+    ∷ row (query four (BinsearchRange 0 5 3)) (refused 9)
     ∷ []
 
 -- no time is below the universe 0
@@ -90,7 +108,7 @@ past t = simp (le-ltb t 0 (zero-le {n = t}), le-leb 0 t (zero-le {n = t}))
 
 -- by computation, but for the one row with a time that is not known
 pub rows-right : (t : ℕ) → map (λ (r : Row). r .asked) (rows t) ≡ map (λ (r : Row). r .says) (rows t)
-unfolding rows four widest start filedFrom reading finish bit count word last select bitAt bitOver number numberWords overwrite table pos blocks size wide spill before entry lanes lane laneWord laneWords overflow indexWords places same lowLen highLen startLen highFrom lowNumber highWords lowWords image rising bitWords timeIn timesIn holds fit times accepted timeOf selectOf newTest newOf sound builderTest timeTest filed pushOf heldTimes intact imageOf imageTest buildOf
+unfolding rows four widest start filedFrom reading finish bit count word last select bitAt bitOver number numberWords overwrite table pos blocks size wide spill before entry lanes lane laneWord laneWords overflow indexWords places same lowLen highLen startLen highFrom lowNumber highWords lowWords image rising bitWords timeIn timesIn holds fit times accepted nth gap below greatest smallest scan halve searched ask query newTest newOf sound builderTest timeTest filed pushOf heldTimes intact imageOf imageTest buildOf
 rows-right t =
     let w : List ℕ = replicate 7 0 ++ replicate 9 5 in
     let m : Answer → Made = λ a. tested a (builder 0 1 0 0) w (made done (builder 0 1 1 t) (filed 0 1 0 t w)) in

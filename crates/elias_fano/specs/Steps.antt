@@ -6,8 +6,8 @@ use Prim.Native.Nat.{ℕ, _+_, _-_, _*_, _/_, _%_, _^_}
 use lib.Dec.{eqb, leb, ltb}
 use lib.ListN.{length, take, drop, replicate}
 use Rattle.errors.specs.Answer.{Answer, value, none, done, refused}
-use Rattle.bit_words.specs.Vector.{wordsFor, overwrite}
-use Rattle.elias_fano_words.specs.Sizes.{lowLen, lowAt, highLen, startLen}
+use Rattle.bit_words.specs.Vector.{overwrite}
+use Rattle.elias_fano_words.specs.Sizes.{lowLen, lowAt, startLen}
 use Rattle.elias_fano_words.specs.Image.{image}
 use Rattle.elias_fano_words.specs.Times.{lastOf, timesIn, holds}
 use Rattle.elias_fano.specs.declared.builder.Builder.{Builder}

@@ -11,9 +11,9 @@ use Rattle.elias_fano_words.specs.Sizes.{startLen, sizesOf}
 use Rattle.elias_fano_words.specs.declared.sizes.Sizes.{Sizes}
 use Rattle.elias_fano.specs.declared.builder.Builder.{Builder}
 use Rattle.elias_fano.specs.declared.builder.Tested.{Tested}
-use Rattle.elias_fano.specs.declared.builder.Tested.the-variants as tested
+use Rattle.elias_fano.specs.declared.builder.Tested.the-variants as test
 use Rattle.elias_fano.specs.declared.builder.TestedBuild.{TestedBuild}
-use Rattle.elias_fano.specs.declared.builder.TestedBuild.the-variants as tested-build
+use Rattle.elias_fano.specs.declared.builder.TestedBuild.the-variants as test-build
 use Rattle.elias_fano.specs.Finishing.{Finishable}
 use Rattle.elias_fano.specs.Steps.{newTest, sound, builderTest, pushTest, buildTest}
 
@@ -25,8 +25,8 @@ pub record Startable (u n k : ℕ) (s : Sizes) : Type 0 where
   pub sizes : s ≡ sizesOf u n
 
 abbrev pub TestsNew : ℕ → ℕ → ℕ → Tested → Type 0
-TestsNew u n k (tested.Passed s) = Startable u n k s
-TestsNew u n k (tested.Refused e) = newTest u n k ≡ refused (numberOf e)
+TestsNew u n k (test.Passed s) = Startable u n k s
+TestsNew u n k (test.Refused e) = newTest u n k ≡ refused (numberOf e)
 
 -- the builder's numbers are sound, and the words as many as its start zeroes
 pub record Roomy (b : Builder) (k : ℕ) (s : Sizes) : Type 0 where
@@ -36,8 +36,8 @@ pub record Roomy (b : Builder) (k : ℕ) (s : Sizes) : Type 0 where
 
 -- a refusal comes before what other tests say
 abbrev pub TestsBuilder : Builder → ℕ → Tested → Type 0
-TestsBuilder b k (tested.Passed s) = Roomy b k s
-TestsBuilder b k (tested.Refused e) = (others : Answer) → builderTest b k others ≡ refused (numberOf e)
+TestsBuilder b k (test.Passed s) = Roomy b k s
+TestsBuilder b k (test.Refused e) = (others : Answer) → builderTest b k others ≡ refused (numberOf e)
 
 -- nothing stands against a reading
 pub record Fileable (b : Builder) (t k : ℕ) (s : Sizes) : Type 0 where
@@ -47,10 +47,10 @@ pub record Fileable (b : Builder) (t k : ℕ) (s : Sizes) : Type 0 where
   pub more : b .«num_pushed» ≡ b .«num_vals» → ⊥
 
 abbrev pub TestsPush : Builder → ℕ → ℕ → Tested → Type 0
-TestsPush b t k (tested.Passed s) = Fileable b t k s
-TestsPush b t k (tested.Refused e) = pushTest b t k ≡ refused (numberOf e)
+TestsPush b t k (test.Passed s) = Fileable b t k s
+TestsPush b t k (test.Refused e) = pushTest b t k ≡ refused (numberOf e)
 
 -- nothing stands against a finish, and the plan is that of its image
 abbrev pub TestsBuild : Builder → Bool → List ℕ → TestedBuild → Type 0
-TestsBuild b c w (tested-build.Passed p) = Finishable b c p w × (p .end ≤ length w)
-TestsBuild b c w (tested-build.Refused e) = buildTest b c w ≡ refused (numberOf e)
+TestsBuild b c w (test-build.Passed p) = Finishable b c p w × (p .end ≤ length w)
+TestsBuild b c w (test-build.Refused e) = buildTest b c w ≡ refused (numberOf e)

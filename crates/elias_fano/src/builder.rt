@@ -180,7 +180,7 @@ fn test_push(b: Builder, val: u64, len: usize) -> Tested
 }
 
 // Files the next value: its one high bit, and its low bits.
-fn file(b: Builder, val: u64, s: Sizes, buffer: &mut [u64])
+pub fn file(b: Builder, val: u64, s: Sizes, buffer: &mut [u64])
     requires { ⌜ Fileable b val (length (now buffer)) s ⌝ }
     ensures { λ _. ⌜ now (buffer .exit) ≡ filed (b .universe) (b .«num_vals») (b .«num_pushed») val (now (buffer .entry)) ⌝ }
 {

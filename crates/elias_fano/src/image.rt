@@ -5,7 +5,8 @@ ghost use Prim.Native.Nat.{_-_, _^_, _≤_, _<_};
 ghost use lib.ListN.{getD};
 ghost use Rattle.darray.specs.Pending.{Decides};
 ghost use Rattle.elias_fano_words.specs.Times.{holds};
-ghost use Rattle.elias_fano.specs.Accept.{universe as universeOf, declared, pushed, indexLen, partsBy, partsOf, times, ofOpened, openOf, ofValue, timeOf, selectOf};
+ghost use Rattle.elias_fano.specs.Accept.{universe as universeOf, declared, pushed, indexLen, partsBy, partsOf, times, ofOpened, openOf, ofValue};
+ghost use Rattle.elias_fano.specs.Ask.{Select, asked, query};
 ghost use Rattle.elias_fano.specs.Opening.{Counts, Limits, Complete, Headed, Heads, bitsIn, Indexes, Open, OneAt};
 use bit_words::words_for;
 use broadword::Found;
@@ -36,6 +37,13 @@ pub struct Parts {
 // The parts of an accepted image.
 pub enum Opened {
     Image(Parts),
+    Refused(Refusal),
+}
+
+// How many, or the number of a value.
+pub enum Number {
+    Is(usize),
+    Nothing,
     Refused(Refusal),
 }
 
@@ -224,7 +232,7 @@ pub fn open(image: &[u64]) -> Opened
 }
 
 // The value with the number k, whose one stands at `place`.
-fn value_at(image: &[u64], p: Parts, k: usize, place: usize) -> u64
+pub fn value_at(image: &[u64], p: Parts, k: usize, place: usize) -> u64
     requires { ⌜ OneAt (now image) p k place ⌝ }
     ensures { λ r. ⌜ r ≡ getD (times (now (image .entry))) k 0 ⌝ }
 {
@@ -233,15 +241,11 @@ fn value_at(image: &[u64], p: Parts, k: usize, place: usize) -> u64
     (((place - k) as u64) << p.low_len) + low_at(&image[start..end], p.low_len, k)
 }
 
-// The value with the number k, by the indexes: constant time but for the words between every 32nd one.
-pub fn select_opened(image: &[u64], p: Parts, k: usize, table: &[u8; 2048]) -> Value
-    requires { ⌜ Open (now image) p (now table) ⌝ }
-    ensures { λ r. ⌜ ofValue r ≡ timeOf (now (image .entry)) k ⌝ }
+// Where the one of the value with the number k stands, by the index: constant time but for the words between every 32nd one.
+pub fn one_at(image: &[u64], p: Parts, k: usize, table: &[u8; 2048]) -> usize
+    requires { ⌜ (Open (now image) p (now table) × (k < p .«num_pushed»)) ⌝ }
+    ensures { λ r. ⌜ OneAt (now (image .entry)) p k r ⌝ }
 {
-    let m = p.num_pushed as usize;
-    if k >= m {
-        return Value::Nothing;
-    }
     let start = p.low_at;
     let ones_at = p.ones_at;
     let zeros_at = p.zeros_at;
@@ -249,18 +253,37 @@ pub fn select_opened(image: &[u64], p: Parts, k: usize, table: &[u8; 2048]) -> V
         &image[6..start],
         p.high_len,
         &image[ones_at..zeros_at],
-        m,
+        p.num_pushed as usize,
         table,
         k,
     ) {
-        Found::At(place) => Value::Is(value_at(image, p, k, place)),
-        Found::Nothing => Value::Nothing,
+        Found::At(place) => place,
+        Found::Nothing => 0,
     }
+}
+
+// The value with the number k, which there is.
+pub fn value_of(image: &[u64], p: Parts, k: usize, table: &[u8; 2048]) -> u64
+    requires { ⌜ (Open (now image) p (now table) × (k < p .«num_pushed»)) ⌝ }
+    ensures { λ r. ⌜ r ≡ getD (times (now (image .entry))) k 0 ⌝ }
+{
+    value_at(image, p, k, one_at(image, p, k, table))
+}
+
+// The value with the number k, of an opened image.
+pub fn select_opened(image: &[u64], p: Parts, k: usize, table: &[u8; 2048]) -> Value
+    requires { ⌜ Open (now image) p (now table) ⌝ }
+    ensures { λ r. ⌜ ofValue r ≡ asked (now (image .entry)) (Select k) ⌝ }
+{
+    if k >= p.num_pushed as usize {
+        return Value::Nothing;
+    }
+    Value::Is(value_of(image, p, k, table))
 }
 
 // The value with the number k.
 pub fn select(image: &[u64], k: usize) -> Value
-    ensures { λ r. ⌜ ofValue r ≡ selectOf (now (image .entry)) k ⌝ }
+    ensures { λ r. ⌜ ofValue r ≡ query (now (image .entry)) (Select k) ⌝ }
 {
     match open(image) {
         Opened::Image(p) => {

@@ -1,4 +1,4 @@
 // A monotone sequence by Elias-Fano encoding, in lent words.
 pub mod builder;
-mod finish;
+pub mod finish;
 pub mod image;

@@ -21,10 +21,10 @@ enum-known-e : tie.Need-enum-known-e
 enum-known-e c = search needs
 
 returns : tie.Need-returns
-returns c = answers.select-time _ _ _ (answers.is-open _ _ _ (c .before .before .before .before .before .before .«open» .ensures) (c .before .before .before .before .p .given .1) .0) (c .select-opened .ensures)
+returns c = answers.query-opened _ _ _ (answers.is-open _ _ _ (c .before .before .before .before .before .before .«open» .ensures) (c .before .before .before .before .p .given .1) .0) (c .select-opened .ensures)
 
 returns-2 : tie.Need-returns-2
-returns-2 c = answers.select-refused _ _ _ _ (c .before .before .before .«open» .ensures) (c .before .e .given .1)
+returns-2 c = answers.query-refused _ _ _ _ (c .before .before .before .«open» .ensures) (c .before .e .given .1)
 
 pub select-spec : {M : Type 1} → statement M
 select-spec =

@@ -1,71 +1,18 @@
 -- `elias_fano::image::select_opened` meets its contract.
 -- Assumes nothing.
 use borrow.Author.Needs.{needs}
-use mathlib.Core.Path.{sym, _∙_}
-use native.Mathlib.Omega.{arith}
-use Rattle.elias_fano.proofs.Accepting.{found}
 use Rattle.elias_fano.proofs.Selecting as selecting
-use Rattle.elias_fano.proofs.Standing as standing
 use Rattle.elias_fano.proofs.image.select_opened.Statement.{statement}
 use Rattle.elias_fano.proofs.image.select_opened.Tie as tie
 
 returns : tie.Need-returns
 returns c = let s = c .before .before in selecting.no-time (s .args .image .now) (s .pre .ok) (s .args .p) (s .pre .parts) (s .args .k) (c .if1 .taken)
 
-sub-select1 : tie.Need-sub-select1
-sub-select1 c = let s = c .before .before in standing.six-low (s .args .image .now) (s .args .p) (s .pre .parts) (found (s .args .image .now) (s .pre .ok) .head)
-
-part-select1-start : tie.Need-part-select1-start
-part-select1-start c = let s = c .before .before in standing.six-low (s .args .image .now) (s .args .p) (s .pre .parts) (found (s .args .image .now) (s .pre .ok) .head)
-
-part-select1-end : tie.Need-part-select1-end
-part-select1-end c = let s = c .before .before in standing.low-end (s .args .image .now) (s .args .p) (s .pre .parts) (found (s .args .image .now) (s .pre .ok) .head)
-
-mul-select1 : tie.Need-mul-select1
-mul-select1 c = let s = c .before .before .before in let e = standing.ones-end (s .args .image .now) (s .args .p) (s .pre .parts) (found (s .args .image .now) (s .pre .ok) .head) in record { fits = omega (arith, s .good) }
-
-sub-select1-2 : tie.Need-sub-select1-2
-sub-select1-2 c = let s = c .before .before .before in standing.ones-zeros (s .args .image .now) (s .args .p) (s .pre .parts) (found (s .args .image .now) (s .pre .ok) .head)
-
-part-select1-start-2 : tie.Need-part-select1-start-2
-part-select1-start-2 c = let s = c .before .before .before in standing.ones-zeros (s .args .image .now) (s .args .p) (s .pre .parts) (found (s .args .image .now) (s .pre .ok) .head)
-
-part-select1-end-2 : tie.Need-part-select1-end-2
-part-select1-end-2 c = let s = c .before .before .before in standing.zeros-end (s .args .image .now) (s .args .p) (s .pre .parts) (found (s .args .image .now) (s .pre .ok) .head)
-
-select1-requires : tie.Need-select1-requires
-select1-requires c κs = let s = c .before .before .before .before in selecting.indexed (s .args .image .now) (s .pre .ok) (s .args .p) (s .pre .parts) _ (s .pre .rule)
-
-enum-known-place : tie.Need-enum-known-place
-enum-known-place c = search needs
-
-value-at-requires : tie.Need-value-at-requires
-value-at-requires c κs = let s = c .before .before .before .before .before .before .before .before in record { ok = s .pre .ok; parts = s .pre .parts; below = c .before .before .before .before .before .before .if1 .left; place = sym (c .before .before .before .select1 .ensures) ∙ c .before .place .given .1 }
-
-enum-told : tie.Need-enum-told
-enum-told c = search needs
+value-of-requires : tie.Need-value-of-requires
+value-of-requires c κs = search needs
 
 returns-2 : tie.Need-returns-2
-returns-2 c = let s = c .before .before .before .before .before .before .before .before .before in selecting.is-value (s .args .image .now) (s .pre .ok) (s .args .p) (s .pre .parts) (s .args .k) (c .before .before .before .before .before .before .before .if1 .left) _ (c .value-at .ensures)
-
-returns-3 : tie.Need-returns-3
-returns-3 c = let s = c .before .before .before .before .before .before .before in absurd (selecting.some-place (s .args .image .now) (s .pre .ok) (s .args .p) (s .pre .parts) (s .args .k) (c .before .before .before .before .before .if1 .left) _ (c .before .before .select1 .ensures) (c .enum-told .given .1))
+returns-2 c = let s = c .before .before .before in selecting.is-value (s .args .image .now) (s .pre .ok) (s .args .p) (s .pre .parts) (s .args .k) (c .before .if1 .left) _ (c .value-of .ensures)
 
 pub select-opened-spec : {M : Type 1} → statement M
-select-opened-spec =
-    tie.close
-    (tie.spec
-    returns
-    sub-select1
-    part-select1-start
-    part-select1-end
-    mul-select1
-    sub-select1-2
-    part-select1-start-2
-    part-select1-end-2
-    select1-requires
-    enum-known-place
-    value-at-requires
-    enum-told
-    returns-2
-    returns-3)
+select-opened-spec = tie.close (tie.spec returns value-of-requires returns-2)
