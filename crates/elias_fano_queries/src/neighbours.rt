@@ -1,0 +1,128 @@
+// The neighbours of a value: the greatest one at or below it, and the smallest at or above.
+//
+// Rank tells where in the high bits the neighbour is looked for: as many ones stand before the place as values are below. So no second
+// select is made: the next one, or the one before, is found by words.
+ghost use mathlib.Core.Path.{_≡_};
+ghost use Prim.Native.Nat.{_-_, _<_};
+ghost use lib.ListN.{length, getD};
+ghost use Rattle.broadword.specs.Places.{SelectInByte};
+ghost use Rattle.elias_fano.specs.Accept.{times, ofValue};
+ghost use Rattle.elias_fano.specs.Ask.{Predecessor, Successor, nth, asked, query};
+ghost use Rattle.elias_fano.specs.Opening.{Open};
+ghost use Rattle.elias_fano_queries.specs.Places.{Behind};
+use crate::rank::rank_within;
+use bit_words::find_from;
+use bit_words::last_upto;
+use broadword::Found;
+use broadword::select_in_byte_table;
+use elias_fano::image::Opened;
+use elias_fano::image::Parts;
+use elias_fano::image::Value;
+use elias_fano::image::open;
+use elias_fano::image::select_opened;
+use elias_fano::image::value_at;
+use errors::Refusal;
+
+// The last value whose one stands before the place, which k ones stand before.
+pub fn value_before(image: &[u64], p: Parts, k: usize, place: usize) -> u64
+    requires { ⌜ (Behind (now image) p k place × (0 < k)) ⌝ }
+    ensures { λ r. ⌜ r ≡ getD (times (now (image .entry))) (k - 1) 0 ⌝ }
+{
+    let start = p.low_at;
+    match last_upto(&image[6..start], place - 1) {
+        Found::At(x) => value_at(image, p, k - 1, x),
+        Found::Nothing => 0,
+    }
+}
+
+// The first value whose one stands at the place or after it; k ones stand before.
+fn value_from(image: &[u64], p: Parts, k: usize, place: usize, table: &[u8; 2048]) -> u64
+    requires { ⌜ (Behind (now image) p k place × (k < p .«num_pushed») × SelectInByte (now table)) ⌝ }
+    ensures { λ r. ⌜ r ≡ getD (times (now (image .entry))) k 0 ⌝ }
+{
+    let start = p.low_at;
+    match find_from(&image[6..start], start - 6, true, table, place, 0) {
+        Found::At(x) => value_at(image, p, k, x),
+        Found::Nothing => 0,
+    }
+}
+
+// The last value, if there is one.
+fn last_value(image: &[u64], p: Parts, table: &[u8; 2048]) -> Value
+    requires { ⌜ Open (now image) p (now table) ⌝ }
+    ensures { λ r. ⌜ ofValue r ≡ nth (times (now (image .entry))) (length (times (now (image .entry))) - 1) ⌝ }
+{
+    let m = p.num_pushed as usize;
+    if m == 0 {
+        return Value::Nothing;
+    }
+    select_opened(image, p, m - 1, table)
+}
+
+// The greatest value at or below val, of an opened image.
+pub fn predecessor_opened(image: &[u64], p: Parts, val: u64, table: &[u8; 2048]) -> Value
+    requires { ⌜ Open (now image) p (now table) ⌝ }
+    ensures { λ r. ⌜ ofValue r ≡ asked (now (image .entry)) (Predecessor val) ⌝ }
+{
+    if val >= p.universe {
+        return Value::Nothing;
+    }
+    let after = val + 1;
+    if after == p.universe {
+        return last_value(image, p, table);
+    }
+    if !p.rank {
+        return Value::Refused(Refusal::NoRankIndex);
+    }
+    let k = rank_within(image, p, after, table);
+    if k == 0 {
+        return Value::Nothing;
+    }
+    let h = (after >> p.low_len) as usize;
+    Value::Is(value_before(image, p, k, h + k))
+}
+
+// The smallest value at or above val, of an opened image.
+pub fn successor_opened(image: &[u64], p: Parts, val: u64, table: &[u8; 2048]) -> Value
+    requires { ⌜ Open (now image) p (now table) ⌝ }
+    ensures { λ r. ⌜ ofValue r ≡ asked (now (image .entry)) (Successor val) ⌝ }
+{
+    if val >= p.universe {
+        return Value::Nothing;
+    }
+    if !p.rank {
+        return Value::Refused(Refusal::NoRankIndex);
+    }
+    let k = rank_within(image, p, val, table);
+    if k >= p.num_pushed as usize {
+        return Value::Nothing;
+    }
+    let h = (val >> p.low_len) as usize;
+    Value::Is(value_from(image, p, k, h + k, table))
+}
+
+// The greatest value at or below val.
+pub fn predecessor(image: &[u64], val: u64) -> Value
+    ensures { λ r. ⌜ ofValue r ≡ query (now (image .entry)) (Predecessor val) ⌝ }
+{
+    match open(image) {
+        Opened::Image(p) => {
+            let table = select_in_byte_table();
+            predecessor_opened(image, p, val, &table)
+        }
+        Opened::Refused(e) => Value::Refused(e),
+    }
+}
+
+// The smallest value at or above val.
+pub fn successor(image: &[u64], val: u64) -> Value
+    ensures { λ r. ⌜ ofValue r ≡ query (now (image .entry)) (Successor val) ⌝ }
+{
+    match open(image) {
+        Opened::Image(p) => {
+            let table = select_in_byte_table();
+            successor_opened(image, p, val, &table)
+        }
+        Opened::Refused(e) => Value::Refused(e),
+    }
+}
