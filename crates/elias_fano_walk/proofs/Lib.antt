@@ -1,0 +1,4 @@
+pub mod Reading
+pub mod Searched
+pub mod Steps
+pub mod Walked

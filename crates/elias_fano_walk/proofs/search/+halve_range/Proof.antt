@@ -1,0 +1,165 @@
+-- The proof of the cycle of calls {halve_range}. The measure is what is left of the range. Assumes nothing.
+use native.Mathlib.Omega.{arith}
+use Rattle.elias_fano_walk.proofs.Searched as searched
+use Prim.Native.Nat.{ℕ, _-_, _<_}
+use borrow.Fn.Kinds.{In}
+use borrow.Fn.PlainCycle.{Measures, is, falls, and}
+use Rattle.elias_fano_walk.proofs.search.halve_range.Reads as halve-range
+use Rattle.elias_fano_walk.proofs.search.halve_range.Kinds as halve-range-kinds
+use Rattle.elias_fano_walk.proofs.search.+halve_range.Lts-halve_range as halve-range-lts
+use Rattle.elias_fano.proofs.image.value_of.Reads as value-of-reads
+use Rattle.elias_fano_walk.proofs.search.scan_range.Reads as scan-range-reads
+use Rattle.elias_fano_walk.proofs.search.+halve_range.{statement}
+use Rattle.elias_fano_walk.proofs.search.+halve_range.Tie.{close}
+
+abbrev μ-halve-range : Measures 3 halve-range-kinds.ps ℕ
+μ-halve-range κs a = a .1 .1 .1 .0 - a .1 .1 .0
+
+abbrev halve-range-at : ℕ → In 3 halve-range-kinds.ps
+halve-range-at t =
+    and 3 halve-range-kinds.ps (is 3 halve-range-kinds.ps μ-halve-range t) halve-range.Pre
+
+abbrev halve-range-below : ℕ → In 3 halve-range-kinds.ps
+halve-range-below t =
+    and 3 halve-range-kinds.ps (falls 3 halve-range-kinds.ps _<_ μ-halve-range t) halve-range.Pre
+
+halve-range-sub-if1 : (t : ℕ) → halve-range-lts.Need-sub-if1 (
+  scan-range-reads.Asked,
+  scan-range-reads.Learnt,
+  value-of-reads.Asked,
+  value-of-reads.Learnt,
+  halve-range-below t,
+  halve-range.Post,
+) (halve-range-at t) halve-range.Post
+halve-range-sub-if1 t c = let s = c .before in omega (arith, s .pre .1 .1 .some)
+
+halve-range-scan-range-requires : (t : ℕ) → halve-range-lts.Need-scan-range-requires (
+  scan-range-reads.Asked,
+  scan-range-reads.Learnt,
+  value-of-reads.Asked,
+  value-of-reads.Learnt,
+  halve-range-below t,
+  halve-range.Post,
+) (halve-range-at t) halve-range.Post
+halve-range-scan-range-requires t c κs = let s = c .before .before in s .pre .1
+
+halve-range-returns : (t : ℕ) → halve-range-lts.Need-returns (
+  scan-range-reads.Asked,
+  scan-range-reads.Learnt,
+  value-of-reads.Asked,
+  value-of-reads.Learnt,
+  halve-range-below t,
+  halve-range.Post,
+) (halve-range-at t) halve-range.Post
+halve-range-returns t c = let s = c .before .before .before in searched.is-scan (s .args .val) _ (s .args .a) (s .args .b) (c .before .if1 .taken) _ (c .scan-range .ensures)
+
+halve-range-add-mid : (t : ℕ) → halve-range-lts.Need-add-mid (
+  scan-range-reads.Asked,
+  scan-range-reads.Learnt,
+  value-of-reads.Asked,
+  value-of-reads.Learnt,
+  halve-range-below t,
+  halve-range.Post,
+) (halve-range-at t) halve-range.Post
+halve-range-add-mid t c = let s = c .before .before in record { fits = omega (arith, s .pre .1 .1 .some, searched.few (s .args .image .now) (s .pre .1 .0 .opened .ok) (s .args .p) (s .pre .1 .0 .opened .parts) (s .args .val) (s .args .a) (s .args .b) (s .pre .1 .1)) }
+
+halve-range-value-of-requires : (t : ℕ) → halve-range-lts.Need-value-of-requires (
+  scan-range-reads.Asked,
+  scan-range-reads.Learnt,
+  value-of-reads.Asked,
+  value-of-reads.Learnt,
+  halve-range-below t,
+  halve-range.Post,
+) (halve-range-at t) halve-range.Post
+halve-range-value-of-requires t c κs = let s = c .before .before in (s .pre .1 .0 .opened, omega (arith, s .pre .1 .1 .some, s .pre .1 .1 .upto))
+
+halve-range-returns-2 : (t : ℕ) → halve-range-lts.Need-returns-2 (
+  scan-range-reads.Asked,
+  scan-range-reads.Learnt,
+  value-of-reads.Asked,
+  value-of-reads.Learnt,
+  halve-range-below t,
+  halve-range.Post,
+) (halve-range-at t) halve-range.Post
+halve-range-returns-2 t c = let s = c .before .before .before .before in searched.is-middle (s .args .val) _ (s .args .a) (s .args .b) (c .before .before .if1 .left) _ (c .before .value-of .ensures) (c .if2 .taken)
+
+halve-range-halve-range-requires : (t : ℕ) → halve-range-lts.Need-halve-range-requires (
+  scan-range-reads.Asked,
+  scan-range-reads.Learnt,
+  value-of-reads.Asked,
+  value-of-reads.Learnt,
+  halve-range-below t,
+  halve-range.Post,
+) (halve-range-at t) halve-range.Post
+halve-range-halve-range-requires t c κs =
+    let s = c .before .before .before .before .before in
+    let h : 64 < s .args .b - s .args .a = c .before .before .before .if1 .left in
+    let u = s .pre .1 .1 .upto in
+    (omega (arith, s .pre .0), (s .pre .1 .0, record { some = omega arith; upto = omega arith }))
+
+halve-range-returns-3 : (t : ℕ) → halve-range-lts.Need-returns-3 (
+  scan-range-reads.Asked,
+  scan-range-reads.Learnt,
+  value-of-reads.Asked,
+  value-of-reads.Learnt,
+  halve-range-below t,
+  halve-range.Post,
+) (halve-range-at t) halve-range.Post
+halve-range-returns-3 t c = let s = c .before .before .before .before .before .before in searched.is-left (s .args .val) _ (s .args .a) (s .args .b) (c .before .before .before .before .if1 .left) _ (c .before .before .before .value-of .ensures) (c .before .before .if2 .left) (c .before .if3 .taken) _ (c .halve-range .ensures)
+
+halve-range-add-halve-range : (t : ℕ) → halve-range-lts.Need-add-halve-range (
+  scan-range-reads.Asked,
+  scan-range-reads.Learnt,
+  value-of-reads.Asked,
+  value-of-reads.Learnt,
+  halve-range-below t,
+  halve-range.Post,
+) (halve-range-at t) halve-range.Post
+halve-range-add-halve-range t c = let s = c .before .before .before .before .before in record { fits = omega (arith, s .pre .1 .1 .some, searched.few (s .args .image .now) (s .pre .1 .0 .opened .ok) (s .args .p) (s .pre .1 .0 .opened .parts) (s .args .val) (s .args .a) (s .args .b) (s .pre .1 .1)) }
+
+halve-range-halve-range-requires-2 : (t : ℕ) → halve-range-lts.Need-halve-range-requires-2 (
+  scan-range-reads.Asked,
+  scan-range-reads.Learnt,
+  value-of-reads.Asked,
+  value-of-reads.Learnt,
+  halve-range-below t,
+  halve-range.Post,
+) (halve-range-at t) halve-range.Post
+halve-range-halve-range-requires-2 t c κs =
+    let s = c .before .before .before .before .before in
+    let h : 64 < s .args .b - s .args .a = c .before .before .before .if1 .left in
+    let u = s .pre .1 .1 .upto in
+    (omega (arith, s .pre .0), (s .pre .1 .0, record { some = omega arith; upto = omega arith }))
+
+halve-range-returns-4 : (t : ℕ) → halve-range-lts.Need-returns-4 (
+  scan-range-reads.Asked,
+  scan-range-reads.Learnt,
+  value-of-reads.Asked,
+  value-of-reads.Learnt,
+  halve-range-below t,
+  halve-range.Post,
+) (halve-range-at t) halve-range.Post
+halve-range-returns-4 t c = let s = c .before .before .before .before .before .before in searched.is-right (s .args .val) _ (s .args .a) (s .args .b) (c .before .before .before .before .if1 .left) _ (c .before .before .before .value-of .ensures) (c .before .before .if2 .left) (c .before .if3 .left) _ (c .halve-range2 .ensures)
+
+pub +halve-range-spec : {M : Type 1} → statement M
++halve-range-spec = close μ-halve-range λ t. halve-range-lts.spec (
+  scan-range-reads.Asked,
+  scan-range-reads.Learnt,
+  value-of-reads.Asked,
+  value-of-reads.Learnt,
+  halve-range-below t,
+  halve-range.Post,
+)
+    (halve-range-at t)
+    halve-range.Post
+    (halve-range-sub-if1 t)
+    (halve-range-scan-range-requires t)
+    (halve-range-returns t)
+    (halve-range-add-mid t)
+    (halve-range-value-of-requires t)
+    (halve-range-returns-2 t)
+    (halve-range-halve-range-requires t)
+    (halve-range-returns-3 t)
+    (halve-range-add-halve-range t)
+    (halve-range-halve-range-requires-2 t)
+    (halve-range-returns-4 t)

@@ -1,0 +1,21 @@
+-- `elias_fano_walk::search::binsearch_range_opened` meets its contract.
+-- Assumes nothing.
+use borrow.Author.Needs.{needs}
+use Rattle.elias_fano_walk.proofs.Searched as searched
+use Rattle.elias_fano_walk.proofs.search.binsearch_range_opened.Statement.{statement}
+use Rattle.elias_fano_walk.proofs.search.binsearch_range_opened.Tie as tie
+
+returns : tie.Need-returns
+returns c = let s = c .before .before in searched.search-empty (s .args .image .now) (s .pre .opened .ok) (s .args .p) (s .pre .opened .parts) (s .args .val) (s .args .a) (s .args .b) (c .if1 .taken)
+
+returns-2 : tie.Need-returns-2
+returns-2 c = let s = c .before .before .before in searched.search-refused (s .args .image .now) (s .pre .opened .ok) (s .args .p) (s .pre .opened .parts) (s .args .val) (s .args .a) (s .args .b) (c .before .if1 .left) (c .if2 .taken)
+
+halve-range-requires : tie.Need-halve-range-requires
+halve-range-requires c κs = search needs
+
+returns-3 : tie.Need-returns-3
+returns-3 c = let s = c .before .before .before .before in searched.search-found (s .args .image .now) (s .pre .opened .ok) (s .args .p) (s .pre .opened .parts) (s .args .val) (s .args .a) (s .args .b) (c .before .before .if1 .left) (c .before .if2 .left) _ (c .halve-range .ensures)
+
+pub binsearch-range-opened-spec : {M : Type 1} → statement M
+binsearch-range-opened-spec = tie.close (tie.spec returns returns-2 halve-range-requires returns-3)
