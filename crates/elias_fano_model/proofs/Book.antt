@@ -1,54 +1,32 @@
 -- The third sentence of demand 3: by induction over the list of calls, the contracts' steps show what the model shows, and the image of an
 -- accepted build is accepted and shows the accepted times. Assumes nothing.
 use mathlib.Core.Path.{_≡_, refl, sym, ap, ap₂, _∙_, subst}
-use mathlib.Core.List.{List, [], _∷_, _++_, append-assoc, append-nil}
+use mathlib.Core.List.{List, [], _∷_, _++_}
 use mathlib.Core.Bool.{Bool, true, false, not, _&&_, cond}
-use Prim.Native.Nat.{ℕ, zero, suc, _+_, _-_, _*_, _≤_, _<_, zero-le}
-use native.Mathlib.Nat.{le-refl, mul-le-mul}
+use Prim.Native.Nat.{ℕ, suc, _*_, _≤_, _<_, zero-le}
 use native.Mathlib.Omega.{arith}
-use borrow.Author.Tests.{le-ltb, lt-ltb, eq-eqb, ne-eqb, ltb-true, ltb-false, leb-true, leb-false, eqb-true, eqb-false}
+use borrow.Author.Tests.{le-ltb, ne-eqb, ltb-true, ltb-false, leb-true, leb-false, eqb-true, eqb-false}
 use lib.Dec.{eqb, leb, ltb}
-use lib.ListN.{length, take, drop, replicate, length-append, length-drop, replicate-append-replicate}
-use lib.Seq.{take-at, take-append-seam}
+use lib.ListN.{length, take, drop, length-append}
+use lib.Seq.{take-append-seam}
 use Rattle.errors.specs.Answer.{Answer, value, done, refused}
-use Rattle.broadword.specs.Fields.{word}
-use Rattle.bit_words.specs.Vector.{wordsFor, numberWords}
-use Rattle.bit_words.proofs.Overwrite.{length-numberWords}
-use Rattle.bit_words.proofs.Runs.{Fit}
-use Rattle.elias_fano_words.specs.Sizes.{lowLen, highLen, startLen}
-use Rattle.elias_fano_words.specs.Image.{highFrom, highWords, lowNumber, image}
-use Rattle.elias_fano_words.specs.Times.{lastOf, bitWords, timesIn, holds}
-use Rattle.elias_fano_words.proofs.Decode.{times-of}
-use Rattle.elias_fano_words.proofs.Holds.{holds-words}
-use Rattle.elias_fano_words.proofs.Rising.{rising-none, rising-snoc, rising-lt, lastOf-snoc, lastOf-getD}
-use Rattle.broadword.proofs.Truth.{true-false, true-and}
+use Rattle.bit_words.specs.Vector.{wordsFor}
+use Rattle.elias_fano_words.specs.Sizes.{lowLen, startLen}
+use Rattle.elias_fano_words.specs.Image.{image}
+use Rattle.elias_fano_words.specs.Times.{lastOf}
+use Rattle.elias_fano_words.proofs.Rising.{lastOf-snoc}
+use Rattle.broadword.proofs.Truth.{true-false}
 use Rattle.elias_fano.specs.declared.builder.Builder.{Builder}
 use Rattle.elias_fano.specs.Accept.{accepted}
 use Rattle.elias_fano.specs.Made.{Made, made, builder}
-use Rattle.elias_fano.specs.Steps.{newOf, sound, timeTest, pushTest, filed, pushOf, heldWords, heldTimes, intact, imageOf, imageTest, buildTest, buildOf}
+use Rattle.elias_fano.specs.Steps.{newOf, sound, timeTest, pushTest, filed, pushOf, intact, imageOf, imageTest, buildTest, buildOf}
 use Rattle.elias_fano.proofs.Cases as cases
-use Rattle.elias_fano.proofs.Filing.{file-next}
+use Rattle.elias_fano.proofs.Filled as filled
+use Rattle.elias_fano.proofs.Filled.{Room}
 use Rattle.elias_fano.proofs.Images.{Fits, image-times, image-accepted}
-use Rattle.elias_fano_model.specs.Model.{Call, push, build, join, answerTo, after, openWords, numbers, tooLong, openBook, closedBook, bookFrom, book, timesFrom}
+use Rattle.elias_fano_model.specs.Model.{Call, push, build, join, answerTo, after, openWords, numbers, tooLong, openBook, closedBook, bookFrom, book, timesFrom, choiceFrom}
 use Rattle.elias_fano_model.specs.Demand3.{stepOf, closes, runFrom, run, endFrom, endOf, shown, Begun, ByTheBook, Whole}
 use Rattle.elias_fano_model.proofs.Shown.{shown-times}
-
--- ---- words of zeros
-
-zeros : (k : ℕ) → numberWords k 0 ≡ replicate k 0
-unfolding numberWords
-zeros zero = refl
-zeros (suc k) = ap (λ (r : List ℕ). 0 ∷ r) (zeros k)
-
-pub fit-zeros : (k : ℕ) → Fit (replicate k 0)
-fit-zeros zero i = omega arith
-fit-zeros (suc k) zero = omega arith
-fit-zeros (suc k) (suc i) = fit-zeros k i
-
-fit-drop : (k : ℕ) (w : List ℕ) → Fit w → Fit (drop k w)
-fit-drop zero w f = f
-fit-drop (suc k) [] f = λ i. omega arith
-fit-drop (suc k) (x ∷ w) f = fit-drop k w (λ i. f (suc i))
 
 -- "T is not empty and t is below its last"
 below-last : (T : List ℕ) (t : ℕ) → (not (eqb (length T) 0) && ltb t (lastOf T)) ≡ ltb t (lastOf T)
@@ -70,77 +48,32 @@ module _ (u n : ℕ) (lent : List ℕ) (begun : Begun u n lent) where
   abbrev W : List ℕ → List ℕ
   W T = openWords u n lent T
 
-  positive : 0 < n
-  positive = let h = begun .some in omega arith
+  room : Room u n lent
+  room = record { small = begun .a-universe; some = begun .some; most = begun .most; long = begun .long; words = begun .words }
 
   fits-none : Fits u n []
-  fits-none = record { small = begun .a-universe; some = positive; most = begun .most; few = zero-le {n = n}; rises = rising-none u 0 }
+  fits-none = filled.fits-none u n lent room
 
-  fits-more : (T : List ℕ) (t : ℕ) → Fits u n T → lastOf T ≤ t → t < u → length T < n → Fits u n (T ++ (t ∷ []))
-  fits-more T t f a b c = record {
-    small = f .small;
-    some = f .some;
-    most = f .most;
-    few = simp length-append (omega arith);
-    rises = rising-snoc u T t (f .rises) a b;
-  }
-
-  -- ---- the words
-
-  length-bits : (T : List ℕ) → length (bitWords u n k T) ≡ wordsFor (highLen u n) + k
-  unfolding bitWords highWords
-  length-bits T =
-      length-append (highWords u n T) (numberWords k (lowNumber (lowLen u n) T))
-      ∙ ap₂ (λ (a b : ℕ). a + b) (length-numberWords (wordsFor (highLen u n)) (highFrom (lowLen u n) 0 T)) (length-numberWords k (lowNumber (lowLen u n) T))
-
-  start-is : startLen u n ≡ 6 + (wordsFor (highLen u n) + k)
-  unfolding startLen
-  start-is = omega arith
+  start : newOf u n lent ≡ openBook u n lent done []
+  unfolding openWords
+  start = cases.new-done u n lent (cases.new-passed u n (length lent) (begun .some) (begun .most) (begun .long)) ∙ ap (made done (builder u n 0 0)) (filled.start-words u n lent room)
 
   length-words : (T : List ℕ) → length (W T) ≡ length lent
   unfolding openWords
-  length-words T =
-      let b = length-bits T in
-      let s = start-is in
-      let l = begun .long in
-      let Z : List ℕ = replicate 6 0 in
-      length-append Z (bitWords u n k T ++ drop (startLen u n) lent)
-      ∙ ap (λ (y : ℕ). 6 + y) (length-append (bitWords u n k T) (drop (startLen u n) lent) ∙ ap (λ (y : ℕ). length (bitWords u n k T) + y) (length-drop (startLen u n) lent))
-      ∙ omega arith
-
-  no-bits : bitWords u n k [] ≡ replicate (wordsFor (highLen u n) + k) 0
-  unfolding bitWords highWords highFrom lowNumber word
-  no-bits = ap₂ (λ (a b : List ℕ). a ++ b) (zeros (wordsFor (highLen u n))) (zeros k) ∙ replicate-append-replicate (wordsFor (highLen u n)) k 0
-
-  -- the words that a start leaves
-  start-words : replicate (startLen u n) 0 ++ drop (startLen u n) lent ≡ W []
-  unfolding openWords
-  start-words =
-      let D : List ℕ = drop (startLen u n) lent in
-      ap (λ (y : ℕ). replicate y 0 ++ D) start-is
-      ∙ ap (λ (r : List ℕ). r ++ D) (sym (replicate-append-replicate 6 (wordsFor (highLen u n) + k) 0))
-      ∙ append-assoc (replicate 6 0) (replicate (wordsFor (highLen u n) + k) 0) D
-      ∙ ap (λ (r : List ℕ). replicate 6 0 ++ (r ++ D)) (sym no-bits)
-
-  start : newOf u n lent ≡ openBook u n lent done []
-  start = cases.new-done u n lent (cases.new-passed u n (length lent) (begun .some) (begun .most) (begun .long)) ∙ ap (made done (builder u n 0 0)) start-words
+  length-words T = filled.length-words u n lent room T
 
   -- ---- a push
 
-  last-lt : (T : List ℕ) → Fits u n T → 0 < length T → lastOf T < u
-  last-lt T f h = subst (λ (x : ℕ). x < u) (sym (lastOf-getD T h)) (rising-lt u T (length T - 1) (f .rises) (omega arith))
-
   numbers-sound : (T : List ℕ) → Fits u n T → sound (B T) ≡ true
-  numbers-sound [] f = cases.none-pushed (B []) (begun .some) (f .most) (f .few) refl ∙ eq-eqb 0 0 refl
-  numbers-sound (t ∷ T) f =
-      cases.some-pushed (B (t ∷ T)) (begun .some) (f .most) (f .few) (λ (e : suc (length T) ≡ 0). omega arith) ∙ lt-ltb _ _ (last-lt (t ∷ T) f (omega arith))
+  numbers-sound T f = filled.numbers-sound u n lent room T f
 
   long : (T : List ℕ) → startLen u n ≤ length (W T)
-  long T = subst (λ (y : ℕ). startLen u n ≤ y) (sym (length-words T)) (begun .long)
+  unfolding openWords
+  long T = filled.long u n lent room T
 
   file : (T : List ℕ) (t : ℕ) → Fits u n T → lastOf T ≤ t → t < u → length T < n → filed u n (length T) t (W T) ≡ W (T ++ (t ∷ []))
   unfolding openWords
-  file T t f a b c = file-next u n T t (f .rises) a b c (replicate 6 0) (drop (startLen u n) lent) refl (fit-zeros 6) (fit-drop (startLen u n) lent (begun .words))
+  file T t f a b c = filled.file u n lent room T t f a b c
 
   -- only a time is tested
   push-test : (T : List ℕ) (t : ℕ) → Fits u n T → pushTest (B T) t (length (W T)) ≡ timeTest (B T) t
@@ -176,37 +109,21 @@ module _ (u n : ℕ) (lent : List ℕ) (begun : Begun u n lent) where
       pushes T t done (answer-is u n lent T t ∙ simp (p, q, r)) refl
       (cases.push-done (B T) t (W T) (push-test T t f ∙ cases.time-passed (B T) t a b ne)
       ∙ ap₂ (made done) (ap₂ (builder u n) (sym (length-append T (t ∷ []))) (sym (lastOf-snoc T t))) (file T t f a b c))
-      (fits-more T t f a b c)
+      (filled.fits-more u n lent room T t f a b c)
 
   push-step : (T : List ℕ) (t : ℕ) → Fits u n T → Pushes T t
   push-step T t f = push-by T t f (ltb t (lastOf T)) (leb u t) (eqb (length T) n) refl refl refl
 
   -- ---- a build
 
-  held-words : (T : List ℕ) → heldWords (B T) (W T) ≡ bitWords u n k T
-  unfolding openWords
-  held-words T = take-at (bitWords u n k T) (drop (startLen u n) lent) (startLen u n - 6) (length-bits T ∙ (let s = start-is in omega arith))
-
   module _ (T : List ℕ) (f : Fits u n T) where
-    low-room : wordsFor (length T * lowLen u n) ≤ k
-    low-room = let g : length T * lowLen u n ≤ n * lowLen u n = mul-le-mul (f .few) (le-refl (lowLen u n)) in omega arith
-
-    held-times : heldTimes (B T) (W T) ≡ T
-    unfolding heldTimes
-    held-times =
-        ap (timesIn u n (length T)) (held-words T ∙ sym (append-nil (bitWords u n k T)))
-        ∙ times-of u n T (f .rises) (f .few) k [] low-room
-
     held-intact : intact (B T) (W T) ≡ true
-    unfolding intact
-    held-intact =
-        true-and (holds u n (length T) (heldWords (B T) (W T))) (eqb (lastOf (heldTimes (B T) (W T))) (lastOf T))
-        (ap (holds u n (length T)) (held-words T) ∙ holds-words u n T (f .rises) (f .few) k low-room)
-        (eq-eqb (lastOf (heldTimes (B T) (W T))) (lastOf T) (ap lastOf held-times))
+    unfolding openWords
+    held-intact = filled.held-intact u n lent room T f
 
     image-is : (c : Bool) → imageOf (B T) c (W T) ≡ image u n c T
-    unfolding imageOf
-    image-is c = ap (image u n c) held-times
+    unfolding openWords
+    image-is c = filled.image-is u n lent room T f c
 
     -- only the image's length is tested
     build-test : (c : Bool) → buildTest (B T) c (W T) ≡ imageTest (B T) c (W T)
@@ -263,24 +180,23 @@ module _ (u n : ℕ) (lent : List ℕ) (begun : Begun u n lent) where
   -- ---- an accepted build
 
   -- the list ends in one
-  record Ends (T : List ℕ) (s : Made) : Type 0 where
-    choice : Bool
+  record Ends (T : List ℕ) (c : Bool) (s : Made) : Type 0 where
     fits : Fits u n T
-    is : s ≡ closedBook u n lent choice T
+    is : s ≡ closedBook u n lent c T
 
   open-goes-on : (a : Answer) (k : ℕ) → closes a ≡ false → a ≡ value k → ⊥
   open-goes-on a k g e = true-false (ap closes (sym e) ∙ g)
 
   ends-build : (T : List ℕ) (c : Bool) (xs : List Call) (k : ℕ) → Fits u n T
-      → ((s : Made) → closes (s .answer) ≡ false → endFrom s (bookFrom u n lent T xs) .answer ≡ value k → Ends (timesFrom u n lent T xs) (endFrom s (bookFrom u n lent T xs)))
+      → ((s : Made) → closes (s .answer) ≡ false → endFrom s (bookFrom u n lent T xs) .answer ≡ value k → Ends (timesFrom u n lent T xs) (choiceFrom u n lent T xs) (endFrom s (bookFrom u n lent T xs)))
       → (t : Bool) (s : Made) → endFrom s (cond t (openBook u n lent (refused 3) T ∷ bookFrom u n lent T xs) (closedBook u n lent c T ∷ [])) .answer ≡ value k
-      → Ends (cond t (timesFrom u n lent T xs) T) (endFrom s (cond t (openBook u n lent (refused 3) T ∷ bookFrom u n lent T xs) (closedBook u n lent c T ∷ [])))
+      → Ends (cond t (timesFrom u n lent T xs) T) (cond t (choiceFrom u n lent T xs) c) (endFrom s (cond t (openBook u n lent (refused 3) T ∷ bookFrom u n lent T xs) (closedBook u n lent c T ∷ [])))
   ends-build T c xs k f ih true s e = ih (openBook u n lent (refused 3) T) refl e
-  ends-build T c xs k f ih false s e = record { choice = c; fits = f; is = refl }
+  ends-build T c xs k f ih false s e = record { fits = f; is = refl }
 
   ends-from : (T : List ℕ) (xs : List Call) (k : ℕ) → Fits u n T → (s : Made) → closes (s .answer) ≡ false → endFrom s (bookFrom u n lent T xs) .answer ≡ value k
-      → Ends (timesFrom u n lent T xs) (endFrom s (bookFrom u n lent T xs))
-  unfolding bookFrom timesFrom
+      → Ends (timesFrom u n lent T xs) (choiceFrom u n lent T xs) (endFrom s (bookFrom u n lent T xs))
+  unfolding bookFrom timesFrom choiceFrom
   ends-from T [] k f s g e = absurd (open-goes-on (s .answer) k g e)
   ends-from T (push t ∷ xs) k f s g e = let p = push-step T t f in ends-from (after u n lent T t) xs k (p .fits) (openBook u n lent (answerTo u n lent T t) (after u n lent T t)) (p .goes-on) e
   ends-from T (build c ∷ xs) k f s g e = ends-build T c xs k f (λ s′ g′ e′. ends-from T xs k f s′ g′ e′) (tooLong u n lent c T) s e
@@ -292,20 +208,37 @@ module _ (u n : ℕ) (lent : List ℕ) (begun : Begun u n lent) where
   value-inj : (a b : ℕ) → value a ≡ value b → a ≡ b
   value-inj a b e = cc
 
-  -- its image is accepted, and shows the accepted times
-  image-shown : (T : List ℕ) (k : ℕ) (s : Made) → Ends T s → s .answer ≡ value k → (accepted (take k (s .words)) ≡ true) × (shown (take k (s .words)) ≡ T)
-  image-shown T k s e v =
-      let I = image u n (e .choice) T in
+  -- its first words are the image of the accepted times
+  image-left : (T : List ℕ) (c : Bool) (k : ℕ) (s : Made) → Ends T c s → s .answer ≡ value k → take k (s .words) ≡ image u n c T
+  image-left T c k s e v =
+      let I = image u n c T in
       let n₀ : length I ≡ k = value-inj (length I) k (sym (ap (λ (x : Made). x .answer) (e .is)) ∙ v) in
-      let i : take k (s .words) ≡ I = ap₂ take (sym n₀) (ap (λ (x : Made). x .words) (e .is)) ∙ take-append-seam I (drop (length I) (W T)) in
-      let ok : accepted I ≡ true = image-accepted u n (e .choice) T (e .fits) in
-      (ap accepted i ∙ ok, ap shown i ∙ shown-times I ok ∙ image-times u n (e .choice) T (e .fits))
+      ap₂ take (sym n₀) (ap (λ (x : Made). x .words) (e .is)) ∙ take-append-seam I (drop (length I) (W T))
+
+  ends : (xs : List Call) (k : ℕ) → endOf u n lent xs .answer ≡ value k → Ends (timesFrom u n lent [] xs) (choiceFrom u n lent [] xs) (endOf u n lent xs)
+  ends xs k e =
+      subst (Ends (timesFrom u n lent [] xs) (choiceFrom u n lent [] xs)) (sym (end-is xs))
+      (ends-from [] xs k fits-none (openBook u n lent done []) refl (sym (ap (λ (x : Made). x .answer) (end-is xs)) ∙ e))
+
+  module _ (xs : List Call) (k : ℕ) (e : endOf u n lent xs .answer ≡ value k) where
+    pub times-fit : Fits u n (timesFrom u n lent [] xs)
+    times-fit = ends xs k e .fits
+
+    pub written-image : take k (endOf u n lent xs .words) ≡ image u n (choiceFrom u n lent [] xs) (timesFrom u n lent [] xs)
+    written-image = image-left (timesFrom u n lent [] xs) (choiceFrom u n lent [] xs) k (endOf u n lent xs) (ends xs k e) e
+
+    -- that image is accepted, and shows them
+    image-shown : (accepted (take k (endOf u n lent xs .words)) ≡ true) × (shown (take k (endOf u n lent xs .words)) ≡ timesFrom u n lent [] xs)
+    image-shown =
+        let c = choiceFrom u n lent [] xs in
+        let T = timesFrom u n lent [] xs in
+        let ok : accepted (image u n c T) ≡ true = image-accepted u n c T times-fit in
+        (ap accepted written-image ∙ ok, ap shown written-image ∙ shown-times (image u n c T) ok ∙ image-times u n c T times-fit)
 
   pub by-the-book : (xs : List Call) → ByTheBook u n lent xs
   by-the-book xs = record {
     every-call = every xs;
-    finished = λ k e. image-shown (timesFrom u n lent [] xs) k (endOf u n lent xs)
-        (subst (Ends (timesFrom u n lent [] xs)) (sym (end-is xs)) (ends-from [] xs k fits-none (openBook u n lent done []) refl (sym (ap (λ (x : Made). x .answer) (end-is xs)) ∙ e))) e;
+    finished = λ k e. image-shown xs k e;
   }
 
 pub whole : Whole

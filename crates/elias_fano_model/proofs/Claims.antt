@@ -6,49 +6,43 @@ use mathlib.Core.Logic.{_↔_}
 use Prim.Native.Nat.{ℕ, _+_, _≤_, _<_}
 use native.Mathlib.Omega.{arith}
 use borrow.Author.Tests.{le-ltb, lt-leb, ne-eqb}
-use lib.Dec.{ltb}
-use lib.ListN.{length, getD, take, drop, replicate, length-append, length-replicate}
+use lib.ListN.{length, take, drop, replicate, length-append, length-replicate}
 use lib.Seq.{take-append-seam, append-snoc}
-use Rattle.errors.specs.Answer.{Answer, value, none, done, refused}
+use Rattle.errors.specs.Answer.{Answer, value, done, refused}
 use Rattle.elias_fano_words.specs.Sizes.{startLen}
 use Rattle.elias_fano_words.specs.Image.{image}
 use Rattle.elias_fano_words.specs.Times.{rising, lastOf}
 use Rattle.elias_fano_words.proofs.Rising.{rising-first, lastOf-snoc}
 use Rattle.broadword.proofs.Truth.{true-false}
-use Rattle.elias_fano.specs.Accept.{universe, declared, ranked, times, accepted, partsOf, parts, unopened, openOf, timeOf, selectOf}
+use Rattle.elias_fano.specs.Accept.{universe, declared, ranked, times, accepted, partsOf, parts, unopened, openOf}
+use Rattle.elias_fano.specs.Ask.{query, asked as askedOf}
 use Rattle.elias_fano.specs.Made.{Made}
 use Rattle.elias_fano.specs.declared.image.Parts.{Parts}
 use Rattle.elias_fano.specs.Steps.{newOf}
+use Rattle.elias_fano.proofs.Filled.{fit-zeros}
 use Rattle.elias_fano.proofs.Images.{is-fit, is-image}
 use Rattle.elias_fano_model.specs.Model.{Call, push, build, answerTo, after, openWords, tooLong, openBook, closedBook, bookFrom, book}
 use Rattle.elias_fano_model.specs.Demand3.{runFrom, run, endFrom, endOf, shown, Begun, Asked, Same, Written, Exactly, Demand3}
-use Rattle.elias_fano_model.proofs.Book.{fit-zeros, answer-is, end-is, every, by-the-book, whole}
+use Rattle.elias_fano_model.proofs.Book.{answer-is, end-is, every, by-the-book, whole}
+use Rattle.elias_fano_model.proofs.Others.{not-seven}
 use Rattle.elias_fano_model.proofs.Shown.{shown-times}
 
 -- ---- what the questions decide
-
-value-not : (k : ℕ) → value k ≡ refused 7 → ⊥
-value-not k e = let z : _≡_ {A = ℕ} 0 1 = cc in omega arith
-
-none-not : none ≡ refused 7 → ⊥
-none-not e = let z : _≡_ {A = ℕ} 0 1 = cc in omega arith
-
-time-not : (b : Bool) (k : ℕ) → cond b (value k) none ≡ refused 7 → ⊥
-time-not true k e = value-not k e
-time-not false k e = none-not e
-
-asked-by : (i : List ℕ) (k : ℕ) (b : Bool) → accepted i ≡ b → (b ≡ true) ↔ (cond b (timeOf i k) (refused 7) ≡ refused 7 → ⊥)
-unfolding timeOf
-asked-by i k true e = ((λ _. time-not (ltb k (length (times i))) (getD (times i) k 0)), (λ _. refl))
-asked-by i k false e = ((λ (h : false ≡ true). absurd (true-false (sym h))), (λ h. absurd (h refl)))
 
 opening-by : (p : Parts) (b : Bool) → (b ≡ true) ↔ (cond b (parts p) (unopened 7) ≡ unopened 7 → ⊥)
 opening-by p true = ((λ _ (e : parts p ≡ unopened 7). let z : _≡_ {A = ℕ} 0 1 = cc in omega arith), (λ _. refl))
 opening-by p false = ((λ (h : false ≡ true). absurd (true-false (sym h))), (λ h. absurd (h refl)))
 
+question-by : (b : Bool) (a : Answer) → (a ≡ refused 7 → ⊥) → (b ≡ true) ↔ (cond b a (refused 7) ≡ refused 7 → ⊥)
+question-by true a f = ((λ _. f), (λ _. refl))
+question-by false a f = ((λ (h : false ≡ true). absurd (true-false (sym h))), (λ h. absurd (h refl)))
+
 pub asked : Asked
-unfolding openOf selectOf
-asked i = record { opening = opening-by (partsOf i) (accepted i); select = λ k. asked-by i k (accepted i) refl }
+unfolding openOf query
+asked i = record {
+  opening = opening-by (partsOf i) (accepted i);
+  question = λ q. question-by (accepted i) (askedOf i q) (not-seven (universe i) (declared i) (ranked i) (times i) q);
+}
 
 -- ---- equal images
 

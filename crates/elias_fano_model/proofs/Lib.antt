@@ -1,4 +1,6 @@
+pub mod Asking
 pub mod Book
 pub mod Claims
+pub mod Others
 pub mod Running
 pub mod Shown

@@ -10,7 +10,8 @@ use borrow.Author.Tests.{lt-ltb, le-ltb}
 use lib.ListN.{length, getD, drop, drop-of-length-le}
 use lib.Seq.{drop-cons}
 use Rattle.errors.specs.Answer.{Answer, value, none}
-use Rattle.elias_fano.specs.Accept.{times, accepted, timeOf, selectOf}
+use Rattle.elias_fano.specs.Accept.{times, accepted}
+use Rattle.elias_fano.specs.Ask.{Select, nth, ask, query}
 use Rattle.elias_fano.proofs.Images.{is-fit}
 use Rattle.elias_fano_model.specs.Demand3.{tell, shownFrom, shown}
 
@@ -24,16 +25,16 @@ module _ (f : ℕ → Answer) (T : List ℕ) (in-list : (k : ℕ) → k < length
       go ih (no g) = ap (λ (a : Answer). tell a (shownFrom f d (suc k))) (past k (omega (arith, lt-of-not-le g))) ∙ sym (drop-of-length-le T {i = k} (omega (arith, lt-of-not-le g)))
 
 module _ (i : List ℕ) (ok : accepted i ≡ true) where
-  select-in : (k : ℕ) → k < length (times i) → selectOf i k ≡ value (getD (times i) k 0)
-  unfolding selectOf timeOf
+  select-in : (k : ℕ) → k < length (times i) → query i (Select k) ≡ value (getD (times i) k 0)
+  unfolding query ask nth
   select-in k h = simp (ok, lt-ltb k (length (times i)) h)
 
-  select-past : (k : ℕ) → length (times i) ≤ k → selectOf i k ≡ none
-  unfolding selectOf timeOf
+  select-past : (k : ℕ) → length (times i) ≤ k → query i (Select k) ≡ none
+  unfolding query ask nth
   select-past k h = simp (ok, le-ltb k (length (times i)) h)
 
   pub shown-times : shown i ≡ times i
   unfolding shown
   shown-times =
       let f = is-fit i ok in
-      shown-rest (selectOf i) (times i) select-in select-past 16777217 0 (omega (arith, f .few, f .most))
+      shown-rest (λ k. query i (Select k)) (times i) select-in select-past 16777217 0 (omega (arith, f .few, f .most))

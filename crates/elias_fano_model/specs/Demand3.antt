@@ -9,7 +9,8 @@ use lib.ListN.{length, getD, take}
 use Rattle.errors.specs.Answer.{Answer, value, none, done, refused}
 use Rattle.elias_fano_words.specs.Sizes.{startLen}
 use Rattle.elias_fano.specs.declared.builder.Builder.{Builder}
-use Rattle.elias_fano.specs.Accept.{universe, declared, ranked, accepted, unopened, openOf, selectOf}
+use Rattle.elias_fano.specs.Accept.{universe, declared, ranked, accepted, unopened, openOf}
+use Rattle.elias_fano.specs.Ask.{Question, Select, query}
 use Rattle.elias_fano.specs.Made.{Made}
 use Rattle.elias_fano.specs.Steps.{newOf, pushOf, buildOf}
 use Rattle.elias_fano_model.specs.Model.{Call, push, build, book, timesFrom}
@@ -58,7 +59,7 @@ shownFrom f (suc d) k = tell (f k) (shownFrom f d (suc k))
 
 -- no record has more than 16,777,216 times
 unfoldable pub shown : List ℕ → List ℕ
-shown i = shownFrom (selectOf i) 16777217 0
+shown i = shownFrom (λ k. query i (Select k)) 16777217 0
 
 -- ---- the sentences
 
@@ -74,10 +75,10 @@ pub record Begun (u n : ℕ) (lent : List ℕ) : Type 0 where
   pub long : startLen u n ≤ length lent
   pub words : Words lent
 
--- "An image is accepted if the record's questions do not refuse it with 7": opening does not, and select does not, for any number
+-- "An image is accepted if the record's questions do not refuse it with 7": opening does not, and no question does
 pub record NotRefused (i : List ℕ) : Type 0 where
   pub opening : (accepted i ≡ true) ↔ (openOf i ≡ unopened 7 → ⊥)
-  pub select : (k : ℕ) → (accepted i ≡ true) ↔ (selectOf i k ≡ refused 7 → ⊥)
+  pub question : (q : Question) → (accepted i ≡ true) ↔ (query i q ≡ refused 7 → ⊥)
 
 abbrev pub Asked : Type 0
 Asked = (i : List ℕ) → NotRefused i

@@ -1,7 +1,7 @@
 -- The book of demand 3: document 01, "The book of demand 3", sentence by sentence. It is opened with u, n and the words lent, is fed only
 -- the arguments of the calls, and keeps a list T of accepted times. It names no step of a contract. Assumes nothing.
 use mathlib.Core.List.{List, [], _∷_, _++_}
-use mathlib.Core.Bool.{Bool, not, _&&_, cond}
+use mathlib.Core.Bool.{Bool, false, not, _&&_, cond}
 use Prim.Native.Nat.{ℕ, _*_}
 use lib.Dec.{eqb, leb, ltb}
 use lib.ListN.{length, drop, replicate}
@@ -73,3 +73,9 @@ module _ (u n : ℕ) (lent : List ℕ) where
   timesFrom T [] = T
   timesFrom T (push t ∷ xs) = timesFrom (after T t) xs
   timesFrom T (build c ∷ xs) = cond (tooLong c T) (timesFrom T xs) T
+
+  -- the choice of the finish that closed the book; false where none did
+  unfoldable pub choiceFrom : List ℕ → List Call → Bool
+  choiceFrom T [] = false
+  choiceFrom T (push t ∷ xs) = choiceFrom (after T t) xs
+  choiceFrom T (build c ∷ xs) = cond (tooLong c T) (choiceFrom T xs) c
