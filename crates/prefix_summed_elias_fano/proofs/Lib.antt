@@ -1,0 +1,5 @@
+pub mod Blocks
+pub mod Cases
+pub mod Filing
+pub mod Restoring
+pub mod Sums

@@ -1,0 +1,77 @@
+-- What the functions that write the record of prefix sums demand and find, inside the crate: no public contract rests on it. A is the list of
+-- items. Assumes nothing.
+use mathlib.Core.Path.{_≡_}
+use mathlib.Core.List.{List, _++_}
+use mathlib.Core.Bool.{true}
+use Prim.Native.Nat.{ℕ, suc, _-_, _*_, _^_, _≤_, _<_}
+use lib.ListN.{length, take, drop, replicate}
+use Rattle.errors.specs.Answer.{refused}
+use Rattle.errors.specs.Refusal.{numberOf}
+use Rattle.bit_words.specs.Vector.{wordsFor}
+use Rattle.darray.specs.Sizes.{Sized}
+use Rattle.elias_fano_words.specs.Image.{highPositions}
+use Rattle.elias_fano_words.specs.Sizes.{lowLen, highLen, startLen, sizesOf}
+use Rattle.elias_fano_words.specs.Times.{bitWords}
+use Rattle.elias_fano_words.specs.declared.sizes.Sizes.{Sizes}
+use Rattle.elias_fano.specs.declared.finish.Plan.{Plan}
+use Rattle.elias_fano.specs.Accept.{onesAt}
+use Rattle.prefix_summed_elias_fano.specs.Sums.{sum, sums, sumsImage, sliceTest}
+use Rattle.prefix_summed_elias_fano.specs.declared.build.Job.{Job}
+use Rattle.prefix_summed_elias_fano.specs.declared.build.Tested.{Tested}
+use Rattle.prefix_summed_elias_fano.specs.declared.build.Tested.the-variants as tested
+use Rattle.prefix_summed_elias_fano.specs.declared.build.Summed.{Summed}
+use Rattle.prefix_summed_elias_fano.specs.declared.build.Summed.the-variants as summed
+
+-- the sum, if it is below 2^64 - 1
+abbrev pub SumOf : List ℕ → Summed → Type 0
+SumOf A (summed.Is s) = (s ≡ sum A) × (s < 2 ^ 64 - 1)
+SumOf A summed.TooLarge = 2 ^ 64 - 1 ≤ sum A
+
+-- so many items as a record takes, with such a sum
+pub record Summable (A : List ℕ) : Type 0 where
+  pub some : 0 < length A
+  pub most : length A ≤ 16777216
+  pub small : sum A < 2 ^ 64 - 1
+
+-- x is the sum of the items up to one place, and another follows
+pub record Part (A : List ℕ) (from to x : ℕ) : Type 0 where
+  pub order : from ≤ to
+  pub upto : to ≤ length A
+  pub before : x ≡ sum (take from A)
+  pub small : sum A < 2 ^ 64
+
+-- the plan of the image
+pub record Laid (A : List ℕ) (p : Plan) : Type 0 where
+  pub ones : Sized (highPositions (suc (sum A)) (length A) true (sums A)) (p .ones)
+  pub zeros : p .zeros ≡ record { positions = 0; entries = 0; lanes = 0; overflow = 0 }
+  pub high : p .«high_len» ≡ highLen (suc (sum A)) (length A)
+  pub ones-at : p .«ones_at» ≡ onesAt (suc (sum A)) (length A) (length A)
+  pub zeros-at : p .«zeros_at» ≡ p .end
+  pub end : p .end ≡ length (sumsImage A)
+
+-- nothing stands against writing it
+pub record Writing (A : List ℕ) (s : Sizes) (k : ℕ) : Type 0 where
+  pub summable : Summable A
+  pub sizes : s ≡ sizesOf (suc (sum A)) (length A)
+  pub room : length (sumsImage A) ≤ k
+
+-- the words that a start of these settings zeroes are 0
+abbrev pub Zeroed : List ℕ → List ℕ → Type 0
+Zeroed A w = w ≡ replicate (startLen (suc (sum A)) (length A)) 0 ++ drop (startLen (suc (sum A)) (length A)) w
+
+-- the words after a start of these settings, and a reading of each sum
+unfoldable pub filedIn : List ℕ → List ℕ → List ℕ
+filedIn A w =
+    replicate 6 0 ++ (bitWords (suc (sum A)) (length A) (wordsFor (length A * lowLen (suc (sum A)) (length A))) (sums A) ++ drop (startLen (suc (sum A)) (length A)) w)
+
+-- nothing stands against it, with k words lent
+pub record Ready (A : List ℕ) (k : ℕ) (j : Job) : Type 0 where
+  pub summable : Summable A
+  pub sum-is : j .sum ≡ sum A
+  pub sizes : j .sizes ≡ sizesOf (suc (sum A)) (length A)
+  pub laid : Laid A (j .plan)
+  pub room : length (sumsImage A) ≤ k
+
+abbrev pub Tests : List ℕ → ℕ → Tested → Type 0
+Tests A k (tested.Passed j) = Ready A k j
+Tests A k (tested.Refused e) = sliceTest A k ≡ refused (numberOf e)
