@@ -1,4 +1,4 @@
-"""The console's sections Words and Bits, and what it has of Record, plainly, over lists of bits.
+"""The console's sections Words and Bits, and what it has of Record, plainly, over lists of bits and of times.
 
 Written from the document that says what is right, not from the Rust: nothing here is clever, and nothing is shared with the crate.
 """
@@ -12,6 +12,7 @@ TOP = 2**64
 BLOCK = 1_024
 SUBBLOCK = 32
 FAR = 65_536
+SCAN = 64
 
 
 class Bad(Exception):
@@ -39,6 +40,14 @@ def choice(word):
     return value
 
 
+def few(word):
+    """A count of words or answers that fits."""
+    value = number(word)
+    if value > LENT:
+        raise Bad
+    return value
+
+
 def bits_of(word):
     return [word >> i & 1 for i in range(64)]
 
@@ -54,6 +63,16 @@ def places(bits, b):
 
 def kth(values, k):
     return values[k] if k < len(values) else None
+
+
+def halved(times, a, b, v):
+    """The search for v from a on and below b: halving, and a scan from the low end once 64 or fewer remain."""
+    if b - a <= SCAN:
+        return next((k for k in range(a, b) if times[k] == v), None)
+    middle = (a + b) // 2
+    if times[middle] == v:
+        return middle
+    return halved(times, a, middle, v) if v < times[middle] else halved(times, middle + 1, b, v)
 
 
 def select_index(positions):
@@ -249,12 +268,12 @@ class Record:
         """The settings, the rank choice and the times of the image; 7 where it is none."""
         words = self.lent[: self.length]
         if self.opened is None or self.opened[0] != words:
-            self.opened = words, self.read(words)
+            self.opened = words, self.decoded(words)
         if self.opened[1] is None:
             raise Refused(7)
         return self.opened[1]
 
-    def read(self, words):
+    def decoded(self, words):
         if len(words) < HEAD:
             return None
         u, n, m, rank = words[:4]
@@ -276,6 +295,69 @@ class Record:
     def select(self, k):
         _, _, times = self.accepted()
         return kth(times, k)
+
+    def delta(self, k):
+        _, _, times = self.accepted()
+        return kth([t - before for before, t in zip([0, *times], times)], k)
+
+    def rank(self, t):
+        settings, index, times = self.accepted()
+        if t > settings.u:
+            return None
+        if t == settings.u:
+            return len(times)
+        if not index:
+            raise Refused(8)
+        return sum(1 for x in times if x < t)
+
+    def predecessor(self, v):
+        settings, index, times = self.accepted()
+        if v >= settings.u:
+            return None
+        if not index and v < settings.u - 1:
+            raise Refused(8)
+        return max((x for x in times if x <= v), default=None)
+
+    def successor(self, v):
+        settings, index, times = self.accepted()
+        if v >= settings.u:
+            return None
+        if not index:
+            raise Refused(8)
+        return min((x for x in times if x >= v), default=None)
+
+    def search(self, v):
+        _, _, times = self.accepted()
+        return self.search_range(0, len(times), v)
+
+    def search_range(self, a, b, v):
+        _, _, times = self.accepted()
+        if a >= b:
+            return None
+        if b > len(times):
+            raise Refused(9)
+        return halved(times, a, b, v)
+
+    def len(self):
+        _, _, times = self.accepted()
+        return len(times)
+
+    def universe(self):
+        settings, _, _ = self.accepted()
+        return settings.u
+
+    def has_rank(self):
+        _, index, _ = self.accepted()
+        return index
+
+    def walk(self, k, count):
+        _, _, times = self.accepted()
+        return [kth(times, k + j) for j in range(count)]
+
+    def read(self, k, count):
+        _, _, times = self.accepted()
+        out = times[k : k + count]
+        return [len(out), *out, *[0] * (count - len(out))]
 
 
 class Console:
@@ -499,6 +581,17 @@ RECORD = {
     "finish": (choice,),
     "open": (),
     "select": (number,),
+    "delta": (number,),
+    "rank": (number,),
+    "predecessor": (number,),
+    "successor": (number,),
+    "search": (number,),
+    "search_range": (number, number, number),
+    "len": (),
+    "universe": (),
+    "has_rank": (),
+    "walk": (number, few),
+    "read": (number, few),
 }
 
 

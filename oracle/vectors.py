@@ -15,6 +15,8 @@ import random
 import sys
 
 sys.dont_write_bytecode = True
+import documented
+import questions
 import records
 from model import LENT, LINE, RECORD, TOP, Console, used_words
 from rust import ask, image
@@ -986,6 +988,9 @@ def make(seed, count):
     add.note("random vectors and commands")
     add_random(add, count)
     records.add_records(add, count // 10)
+    questions.add_questions(add, count // 13)
+    for line in documented.lines():
+        add(line)
     add.note("the last line lacks its line feed")
     add("dump")
     return add.lines
@@ -1032,6 +1037,8 @@ def main():
         sys.exit("no oracle: run oracle/build first")
     check_examples(oracle)
     records.check_examples(oracle)
+    questions.check_examples()
+    held, others = documented.check()
     check_records(oracle)
     check_tables(oracle)
     lines = make(args.seed, args.random)
@@ -1039,7 +1046,8 @@ def main():
     record = records.compare(oracle, lines)
     if args.exhaustive:
         bits = together(bits, compare(oracle, exhaustive())[1:])
-        record = together(record, records.compare(oracle, records.exhaustive()))
+        for lines_of in (records.exhaustive(), questions.exhaustive()):
+            record = together(record, records.compare(oracle, lines_of))
     written = [a for a in answers if a is not None]
     if not args.exhaustive:
         for path, text in ((args.stdin, b"\n".join(lines)), (args.stdout, "".join(a + "\n" for a in written).encode())):
@@ -1049,6 +1057,7 @@ def main():
             elif not path.exists() or path.read_bytes() != text:
                 sys.exit(f"{path} is not what this script writes")
 
+    print(f"{held} assertions of the Rust's doc comments hold, {others} are of calls that are not ported")
     print(f"{len(lines)} lines, {len(written)} answers, {written.count('bad command')} of them bad commands")
     for differences, (seen, agreed, asked) in ((DIFFERENCES, bits), (records.DIFFERENCES, record)):
         print(f"{asked} calls asked of the Rust, {agreed} agree, {sum(seen)} differ:")

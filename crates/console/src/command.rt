@@ -92,7 +92,7 @@ fn of_numbers(name: &[u8], r: Arguments, words: &mut [u64], len: usize) -> Told 
     bits::alter(name, r, words, len)
 }
 
-// The section Record.
+// The section Record: a question over the image, or what alters what is held.
 fn of_record(
     name: &[u8],
     r: Arguments,
@@ -102,6 +102,11 @@ fn of_record(
 ) -> State {
     let mut t = s;
     let held = s.record;
+    let question = console_questions::answer(name, r, line::first(buffer, held.image));
+    if output::is_known(question) {
+        t.at = output::reply_line(out, s.at, question);
+        return t;
+    }
     let told = console_record::answer(name, r, buffer, held);
     let reply = told.reply;
     let record = told.record;
@@ -170,7 +175,7 @@ fn listed(
     bits::dump(words, len, out, at)
 }
 
-// Those of Record: `words` 4, `builder` 5.
+// Those of Record: `words` 4, `builder` 5, and the questions `walk` 6, `read` 7.
 fn recorded(
     k: usize,
     r: Arguments,
@@ -179,6 +184,9 @@ fn recorded(
     out: &mut [u8; 65536],
     at: usize,
 ) -> usize {
+    if 5 < k {
+        return console_questions::list(k, r, line::first(buffer, record.image), out, at);
+    }
     if fits_list(k, r) {
         return show::answer(k, buffer, record, out, at);
     }
@@ -201,7 +209,7 @@ pub fn answer(
     }
     let end = line::word_end(text, 0);
     let name = &text[..end];
-    let k = line::place_in(b"bits unary index dump words builder", name);
+    let k = line::place_in(b"bits unary index dump words builder walk read", name);
     if k == 0 {
         return set(text, end, words, out, s);
     }
@@ -211,7 +219,7 @@ pub fn answer(
         return t;
     }
     let r = line::numbers(text, end);
-    if k < 6 {
+    if k < 8 {
         let record = s.record;
         t.at = recorded(k, r, buffer, record, out, s.at);
         return t;

@@ -4,7 +4,6 @@ use mathlib.Core.Bool.{true, false}
 use mathlib.Core.Logic.{_⊎_, inl, inr, ⊎-elim}
 use mathlib.Core.List.{List, _++_}
 use Prim.Native.Nat.{ℕ, _≤_, _<_}
-use native.Mathlib.Omega.{arith}
 use lib.Dec.{eqb, ltb}
 use lib.ListN.{length, take, drop, set, replicate}
 use borrow.Author.Tests.{lt-ltb, le-ltb, eq-eqb, ne-eqb}
@@ -14,13 +13,13 @@ use Rattle.elias_fano.specs.declared.builder.Pushed.{Pushed}
 use Rattle.elias_fano.specs.declared.builder.Pushed.the-variants as pushed
 use Rattle.elias_fano.specs.declared.builder.Built.{Built}
 use Rattle.elias_fano.specs.declared.builder.Built.the-variants as built
-use Rattle.elias_fano.specs.Accept.{openOf, selectOf}
 use Rattle.elias_fano.specs.Made.{ofPushed, ofBuilt}
 use Rattle.elias_fano.specs.Steps.{newOf, pushOf, buildOf}
 use Rattle.console_text.specs.declared.line.Arguments.{Arguments}
 use Rattle.console_text.specs.declared.output.Reply.the-variants as reply
+use Rattle.console_text.specs.Says.{answers, bad, unknown}
 use Rattle.console_record.specs.declared.Record.{Record}
-use Rattle.console_record.specs.Section.{answers, bad, unknown, turn, turnOf, told, lending, withImage, forgeOf, setImage, holdOf, lendOf, openSays, askOf, pokeOf, toldPushed, ofPush, toldBuilt, ofBuild, alterOf, above, withinOf, fitsOf, doneOf, commandOf, numbersIn, shownOf}
+use Rattle.console_record.specs.Section.{turn, turnOf, told, lending, withImage, forgeOf, setImage, holdOf, lendOf, pokeOf, toldPushed, ofPush, toldBuilt, ofBuild, alterOf, above, withinOf, fitsOf, doneOf, commandOf, numbersIn, shownOf}
 
 pub pushed-leaves : (b : Builder) (p : Pushed) (s : Record) (w : List ℕ) → turnOf (toldPushed p s) w ≡ ofPush s (ofPushed b p w)
 pushed-leaves b (pushed.Accepted c) s w = refl
@@ -63,15 +62,6 @@ module _ (n x : ℕ) (s : Record) (w : List ℕ) where
   unfolding pokeOf
   poke-bad h = simp (le-ltb n (length w) h)
 
-module _ (k a : ℕ) (i : List ℕ) where
-  pub ask-open : k ≡ 2 → askOf k a i ≡ answers (openSays (openOf i))
-  unfolding askOf
-  ask-open e = simp (eq-eqb k 2 e)
-
-  pub ask-select : (k ≡ 2 → ⊥) → askOf k a i ≡ answers (selectOf i a)
-  unfolding askOf
-  ask-select e = simp (ne-eqb k 2 e)
-
 module _ (k : ℕ) (s : Record) (w : List ℕ) where
   pub shown-words : k ≡ 4 → shownOf k s w ≡ take (s .lent) w
   unfolding shownOf
@@ -82,21 +72,21 @@ module _ (k : ℕ) (s : Record) (w : List ℕ) where
   shown-builder e = simp (ne-eqb k 4 e)
 
 module _ (r : Arguments) (s : Record) (w : List ℕ) where
-  pub alter-poke : (k : ℕ) → k ≡ 5 → alterOf k r s w ≡ pokeOf (r .a) (r .b) s w
+  pub alter-poke : (k : ℕ) → k ≡ 3 → alterOf k r s w ≡ pokeOf (r .a) (r .b) s w
   unfolding alterOf
   alter-poke k e = rw e
 
-  pub alter-start : (k : ℕ) → k ≡ 6 → alterOf k r s w ≡ ofPush s (newOf (r .a) (r .b) w)
+  pub alter-start : (k : ℕ) → k ≡ 4 → alterOf k r s w ≡ ofPush s (newOf (r .a) (r .b) w)
   unfolding alterOf
   alter-start k e = rw e
 
-  pub alter-reading : (k : ℕ) → k ≡ 7 → alterOf k r s w ≡ ofPush s (pushOf (s .builder) (r .a) w)
+  pub alter-reading : (k : ℕ) → k ≡ 5 → alterOf k r s w ≡ ofPush s (pushOf (s .builder) (r .a) w)
   unfolding alterOf
   alter-reading k e = rw e
 
-  pub alter-finish : (k : ℕ) → (k ≡ 5 → ⊥) → (k ≡ 6 → ⊥) → (k ≡ 7 → ⊥) → alterOf k r s w ≡ ofBuild s (buildOf (s .builder) (eqb (r .a) 1) w)
+  pub alter-finish : (k : ℕ) → (k ≡ 3 → ⊥) → (k ≡ 4 → ⊥) → (k ≡ 5 → ⊥) → alterOf k r s w ≡ ofBuild s (buildOf (s .builder) (eqb (r .a) 1) w)
   unfolding alterOf
-  alter-finish k e f g = simp (ne-eqb k 5 e, ne-eqb k 6 f, ne-eqb k 7 g)
+  alter-finish k e f g = simp (ne-eqb k 3 e, ne-eqb k 4 f, ne-eqb k 5 g)
 
   module _ (k : ℕ) where
     pub within-bad : length w < s .lent → withinOf k r s w ≡ turn bad s w
@@ -111,56 +101,46 @@ module _ (r : Arguments) (s : Record) (w : List ℕ) where
     unfolding doneOf
     done-hold h = simp (lt-ltb k 2 h)
 
-    pub done-ask : 2 ≤ k → k < 4 → doneOf k r s w ≡ turn (askOf k (r .a) (take (s .image) w)) s w
-    unfolding doneOf
-    done-ask h i = simp (le-ltb k 2 h, lt-ltb k 4 i)
-
-    pub done-lend : k ≡ 4 → doneOf k r s w ≡ lendOf (r .a) (r .b) s w
+    pub done-lend : k ≡ 2 → doneOf k r s w ≡ lendOf (r .a) (r .b) s w
     unfolding doneOf
     done-lend e = rw e
 
-    pub done-within : 4 ≤ k → (k ≡ 4 → ⊥) → doneOf k r s w ≡ withinOf k r s w
+    pub done-within : 2 ≤ k → (k ≡ 2 → ⊥) → doneOf k r s w ≡ withinOf k r s w
     unfolding doneOf
-    done-within h e = simp (le-ltb k 2 (omega arith), le-ltb k 4 h, ne-eqb k 4 e)
+    done-within h e = simp (le-ltb k 2 h, ne-eqb k 2 e)
 
-    pub command-unknown : 8 < k → commandOf k r s w ≡ turn unknown s w
+    pub command-unknown : 6 < k → commandOf k r s w ≡ turn unknown s w
     unfolding commandOf
-    command-unknown h = simp (lt-ltb 8 k h)
+    command-unknown h = simp (lt-ltb 6 k h)
 
-    pub command-done : k ≤ 8 → fitsOf k r ≡ true → commandOf k r s w ≡ doneOf k r s w
+    pub command-done : k ≤ 6 → fitsOf k r ≡ true → commandOf k r s w ≡ doneOf k r s w
     unfolding commandOf
-    command-done h e = simp (le-ltb 8 k h, e)
+    command-done h e = simp (le-ltb 6 k h, e)
 
-    pub command-bad : k ≤ 8 → fitsOf k r ≡ false → commandOf k r s w ≡ turn bad s w
+    pub command-bad : k ≤ 6 → fitsOf k r ≡ false → commandOf k r s w ≡ turn bad s w
     unfolding commandOf
-    command-bad h e = simp (le-ltb 8 k h, e)
+    command-bad h e = simp (le-ltb 6 k h, e)
 
 module _ (k : ℕ) (r : Arguments) where
   pub fits-forge : k ≡ 0 → fitsOf k r ≡ eqb (r .n) 4
   unfolding fitsOf
   fits-forge e = rw e
 
-  pub fits-open : k ≡ 2 → fitsOf k r ≡ eqb (r .n) 0
-  unfolding fitsOf
-  fits-open e = rw e
-
   fits-by : (j : ℕ) → k ≡ j → fitsOf j r ≡ eqb (r .n) 1 → fitsOf k r ≡ eqb (r .n) 1
   fits-by j e f = rw e f
 
-  pub fits-one : (k ≡ 1) ⊎ ((k ≡ 3) ⊎ (k ≡ 7)) → fitsOf k r ≡ eqb (r .n) 1
+  pub fits-one : (k ≡ 1) ⊎ (k ≡ 5) → fitsOf k r ≡ eqb (r .n) 1
   unfolding fitsOf
-  fits-one o = ⊎-elim (λ e. fits-by 1 e refl) (λ p. ⊎-elim (λ e. fits-by 3 e refl) (λ e. fits-by 7 e refl) p) o
+  fits-one o = ⊎-elim (λ e. fits-by 1 e refl) (λ e. fits-by 5 e refl) o
 
-  pub fits-finish : k ≡ 8 → r .n ≡ 1 → fitsOf k r ≡ ltb (r .a) 2
+  pub fits-finish : k ≡ 6 → r .n ≡ 1 → fitsOf k r ≡ ltb (r .a) 2
   unfolding fitsOf
   fits-finish e f = rw e (simp (eq-eqb (r .n) 1 f))
 
-  pub fits-unfinished : k ≡ 8 → (r .n ≡ 1 → ⊥) → fitsOf k r ≡ eqb (r .n) 1
+  pub fits-unfinished : k ≡ 6 → (r .n ≡ 1 → ⊥) → fitsOf k r ≡ eqb (r .n) 1
   unfolding fitsOf
   fits-unfinished e f = rw e (simp (ne-eqb (r .n) 1 f))
 
-  pub fits-two : (k ≡ 0 → ⊥) → (k ≡ 2 → ⊥) → ((k ≡ 1) ⊎ ((k ≡ 3) ⊎ (k ≡ 7)) → ⊥) → (k ≡ 8 → ⊥) → fitsOf k r ≡ eqb (r .n) 2
+  pub fits-two : (k ≡ 0 → ⊥) → ((k ≡ 1) ⊎ (k ≡ 5) → ⊥) → (k ≡ 6 → ⊥) → fitsOf k r ≡ eqb (r .n) 2
   unfolding fitsOf
-  fits-two a b o d =
-      simp
-      (ne-eqb k 0 a, ne-eqb k 2 b, ne-eqb k 1 (λ e. o (inl e)), ne-eqb k 3 (λ e. o (inr (inl e))), ne-eqb k 7 (λ e. o (inr (inr e))), ne-eqb k 8 d)
+  fits-two a o d = simp (ne-eqb k 0 a, ne-eqb k 1 (λ e. o (inl e)), ne-eqb k 5 (λ e. o (inr e)), ne-eqb k 6 d)

@@ -1,40 +1,25 @@
--- The console's section Record: what each command says, and what it leaves: what is held and every word of the buffer. w are the buffer's words, s is
--- what is held, r the command's numbers. Assumes nothing.
+-- The console's section Record, but for the questions: what each command says, and what it leaves: what is held and every word of the buffer. w are the
+-- buffer's words, s is what is held, r the command's numbers. Assumes nothing.
 use mathlib.Core.Bool.{Bool, cond, _&&_, _||_}
 use mathlib.Core.List.{List, [], _∷_, _++_}
 use Prim.Native.Nat.{ℕ}
 use lib.Dec.{eqb, ltb}
 use lib.ListN.{length, take, drop, set, replicate}
 use Rattle.errors.specs.Answer.{Answer, value, none, done, refused}
-use Rattle.errors.specs.Refusal.{numberOf}
 use Rattle.elias_fano.specs.declared.builder.Builder.{Builder}
 use Rattle.elias_fano.specs.declared.builder.Pushed.{Pushed}
 use Rattle.elias_fano.specs.declared.builder.Pushed.the-variants as pushed
 use Rattle.elias_fano.specs.declared.builder.Built.{Built}
 use Rattle.elias_fano.specs.declared.builder.Built.the-variants as built
-use Rattle.elias_fano.specs.Accept.{Opening, parts, unopened, openOf, selectOf}
 use Rattle.elias_fano.specs.Made.{Made, builder, nobody}
 use Rattle.elias_fano.specs.Steps.{newOf, pushOf, buildOf}
 use Rattle.console_text.specs.declared.line.Arguments.{Arguments}
 use Rattle.console_text.specs.declared.output.Reply.{Reply}
 use Rattle.console_text.specs.declared.output.Reply.the-variants as reply
 use Rattle.console_text.specs.Line.{wordsIn, placeAmong}
+use Rattle.console_text.specs.Says.{Says, answers, bad, unknown, saysOf}
 use Rattle.console_record.specs.declared.Record.{Record}
 use Rattle.console_record.specs.declared.Told.{Told}
-
--- what a line of output says: an answer of document 01, "bad command", or nothing, where the name is not the section's
-pub data Says : Type 0 where
-  answers : Answer → Says
-  bad : Says
-  unknown : Says
-
-abbrev pub saysOf : Reply → Says
-saysOf (reply.Value x) = answers (value x)
-saysOf reply.Nothing = answers none
-saysOf reply.Done = answers done
-saysOf (reply.Refused e) = answers (refused (numberOf e))
-saysOf reply.Bad = bad
-saysOf reply.Unknown = unknown
 
 -- what a command says and leaves
 pub record Turn : Type 0 where
@@ -77,17 +62,6 @@ holdOf k r s = cond (eqb k 0) (forgeOf r s) (setImage (r .a) s)
 unfoldable pub lendOf : ℕ → ℕ → Record → List ℕ → Turn
 lendOf n x s w = cond (ltb (length w) n) (turn bad s w) (turn (answers done) (lending n) (replicate n x ++ drop n w))
 
--- ---- questions over the image i
-
--- an opening says only that it is done
-abbrev pub openSays : Opening → Answer
-openSays (parts p) = done
-openSays (unopened k) = refused k
-
--- `open` 2, `select K`
-unfoldable pub askOf : ℕ → ℕ → List ℕ → Says
-askOf k a i = cond (eqb k 2) (answers (openSays (openOf i))) (answers (selectOf i a))
-
 -- ---- what writes into the lent words w
 
 -- `poke I V`
@@ -122,12 +96,12 @@ imageAfter (refused e) s = s
 abbrev pub ofBuild : Record → Made → Turn
 ofBuild s m = turn (answers (m .answer)) (imageAfter (m .answer) s) (m .words)
 
--- `poke` 5, `start U N` 6, `reading T` 7, `finish C`
+-- `poke` 3, `start U N` 4, `reading T` 5, `finish C`
 unfoldable pub alterOf : ℕ → Arguments → Record → List ℕ → Turn
 alterOf k r s w =
-    cond (eqb k 5) (pokeOf (r .a) (r .b) s w)
-    (cond (eqb k 6) (ofPush s (newOf (r .a) (r .b) w))
-    (cond (eqb k 7) (ofPush s (pushOf (s .builder) (r .a) w)) (ofBuild s (buildOf (s .builder) (eqb (r .a) 1) w))))
+    cond (eqb k 3) (pokeOf (r .a) (r .b) s w)
+    (cond (eqb k 4) (ofPush s (newOf (r .a) (r .b) w))
+    (cond (eqb k 5) (ofPush s (pushOf (s .builder) (r .a) w)) (ofBuild s (buildOf (s .builder) (eqb (r .a) 1) w))))
 
 -- the same over the whole buffer: the words that are not lent stay
 abbrev pub above : List ℕ → Turn → Turn
@@ -138,26 +112,24 @@ withinOf k r s w = cond (ltb (length w) (s .lent)) (turn bad s w) (above (drop (
 
 -- ---- all commands, by their places in the list
 
--- "forge image open select buffer poke start reading finish"
+-- "forge image buffer poke start reading finish"
 unfoldable pub commands : List ℕ
-commands = 102 ∷ 111 ∷ 114 ∷ 103 ∷ 101 ∷ 32 ∷ 105 ∷ 109 ∷ 97 ∷ 103 ∷ 101 ∷ 32 ∷ 111 ∷ 112 ∷ 101 ∷ 110 ∷ 32 ∷ 115 ∷ 101 ∷ 108 ∷ 101 ∷ 99 ∷ 116 ∷ 32 ∷ 98 ∷ 117 ∷ 102 ∷ 102 ∷ 101 ∷ 114 ∷ 32 ∷ 112 ∷ 111 ∷ 107 ∷ 101 ∷ 32 ∷ 115 ∷ 116 ∷ 97 ∷ 114 ∷ 116 ∷ 32 ∷ 114 ∷ 101 ∷ 97 ∷ 100 ∷ 105 ∷ 110 ∷ 103 ∷ 32 ∷ 102 ∷ 105 ∷ 110 ∷ 105 ∷ 115 ∷ 104 ∷ []
+commands = 102 ∷ 111 ∷ 114 ∷ 103 ∷ 101 ∷ 32 ∷ 105 ∷ 109 ∷ 97 ∷ 103 ∷ 101 ∷ 32 ∷ 98 ∷ 117 ∷ 102 ∷ 102 ∷ 101 ∷ 114 ∷ 32 ∷ 112 ∷ 111 ∷ 107 ∷ 101 ∷ 32 ∷ 115 ∷ 116 ∷ 97 ∷ 114 ∷ 116 ∷ 32 ∷ 114 ∷ 101 ∷ 97 ∷ 100 ∷ 105 ∷ 110 ∷ 103 ∷ 32 ∷ 102 ∷ 105 ∷ 110 ∷ 105 ∷ 115 ∷ 104 ∷ []
 
 -- how many numbers each takes, and which of them is a choice
 unfoldable pub fitsOf : ℕ → Arguments → Bool
 fitsOf k r =
     cond (eqb k 0) (eqb (r .n) 4)
-    (cond (eqb k 2) (eqb (r .n) 0)
-    (cond (eqb k 1 || (eqb k 3 || eqb k 7)) (eqb (r .n) 1)
-    (cond (eqb k 8) (eqb (r .n) 1 && ltb (r .a) 2) (eqb (r .n) 2))))
+    (cond (eqb k 1 || eqb k 5) (eqb (r .n) 1)
+    (cond (eqb k 6) (eqb (r .n) 1 && ltb (r .a) 2) (eqb (r .n) 2)))
 
 unfoldable pub doneOf : ℕ → Arguments → Record → List ℕ → Turn
 doneOf k r s w =
     cond (ltb k 2) (turnOf (holdOf k r s) w)
-    (cond (ltb k 4) (turn (askOf k (r .a) (take (s .image) w)) s w)
-    (cond (eqb k 4) (lendOf (r .a) (r .b) s w) (withinOf k r s w)))
+    (cond (eqb k 2) (lendOf (r .a) (r .b) s w) (withinOf k r s w))
 
 unfoldable pub commandOf : ℕ → Arguments → Record → List ℕ → Turn
-commandOf k r s w = cond (ltb 8 k) (turn unknown s w) (cond (fitsOf k r) (doneOf k r s w) (turn bad s w))
+commandOf k r s w = cond (ltb 6 k) (turn unknown s w) (cond (fitsOf k r) (doneOf k r s w) (turn bad s w))
 
 abbrev pub answerOf : List ℕ → Arguments → Record → List ℕ → Turn
 answerOf name r s w = commandOf (placeAmong (wordsIn commands) name) r s w

@@ -67,15 +67,15 @@ fn poke(words: &mut [u64], i: usize, x: u64, s: Record) -> Told
     }
 }
 
-// `poke` 5, `start` 6, `reading` 7, `finish` 8.
+// `poke` 3, `start` 4, `reading` 5, `finish` 6.
 fn answer(k: usize, r: Arguments, words: &mut [u64], s: Record) -> Told
     ensures { λ t. ⌜ turnOf t (now (words .exit)) ≡ alterOf k r s (now (words .entry)) ⌝ }
 {
     let b = s.builder;
     match k {
-        5 => poke(words, line::size(r.a), r.b, s),
-        6 => pushed(builder::new(r.a, r.b, words), s),
-        7 => pushed(builder::push(b, r.a, words), s),
+        3 => poke(words, line::size(r.a), r.b, s),
+        4 => pushed(builder::new(r.a, r.b, words), s),
+        5 => pushed(builder::push(b, r.a, words), s),
         _ => built(builder::build(b, r.a == 1, words), s),
     }
 }

@@ -1,9 +1,8 @@
-// The console's section Record: a lent buffer, a builder, and how many of the buffer's first words are the image.
+// The console's section Record, but for the questions: a lent buffer, a builder, and how many of the buffer's first words are the image.
 ghost use mathlib.Core.Path.{_≡_};
 ghost use Rattle.console_record.specs.Section.{turnOf, lending, fitsOf, doneOf, answerOf};
 
 mod alter;
-mod ask;
 mod hold;
 pub mod show;
 
@@ -38,28 +37,20 @@ fn fits(k: usize, r: Arguments) -> bool
 {
     match k {
         0 => r.n == 4,
-        2 => r.n == 0,
-        1 | 3 | 7 => r.n == 1,
-        8 => r.n == 1 && r.a < 2,
+        1 | 5 => r.n == 1,
+        6 => r.n == 1 && r.a < 2,
         _ => r.n == 2,
     }
 }
 
-// What is held is set, asked or written into.
+// What is held is set or written into.
 fn done(k: usize, r: Arguments, buffer: &mut [u64], s: Record) -> Told
     ensures { λ t. ⌜ turnOf t (now (buffer .exit)) ≡ doneOf k r s (now (buffer .entry)) ⌝ }
 {
     if k < 2 {
         return hold::answer(k, r, s);
     }
-    if k < 4 {
-        let image = line::first(buffer, s.image);
-        return Told {
-            reply: ask::answer(k, r.a, image),
-            record: s,
-        };
-    }
-    if k == 4 {
+    if k == 2 {
         return hold::lend(buffer, line::size(r.a), r.b, s);
     }
     alter::within(k, r, buffer, s)
@@ -69,11 +60,8 @@ fn done(k: usize, r: Arguments, buffer: &mut [u64], s: Record) -> Told
 pub fn answer(name: &[u8], r: Arguments, buffer: &mut [u64], s: Record) -> Told
     ensures { λ t. ⌜ turnOf t (now (buffer .exit)) ≡ answerOf (now (name .entry)) r s (now (buffer .entry)) ⌝ }
 {
-    let k = line::place_in(
-        b"forge image open select buffer poke start reading finish",
-        name,
-    );
-    if 8 < k {
+    let k = line::place_in(b"forge image buffer poke start reading finish", name);
+    if 6 < k {
         return Told {
             reply: Reply::Unknown,
             record: s,

@@ -5,13 +5,13 @@ use mathlib.Core.List.{List, [], _∷_}
 use Prim.Native.Nat.{ℕ, _+_}
 use lib.Dec.{ltb}
 use lib.ListN.{set}
-use Rattle.errors.specs.Refusal as refusal
-use Rattle.errors.specs.declared.Refusal.{Refusal}
+use Rattle.errors.specs.Answer.{Answer, value, none, done, refused}
 use Rattle.decimal.specs.Decimal.{Left, writeOf}
 use Rattle.decimal.specs.declared.Written.{Written}
 use Rattle.decimal.specs.declared.Written.the-variants.{End, NoRoom}
 use Rattle.console_text.specs.declared.output.Reply.{Reply}
 use Rattle.console_text.specs.declared.output.Reply.the-variants as reply
+use Rattle.console_text.specs.Says.{Says, answers, bad, unknown}
 
 pub record Gathered : Type 0 where
   pub at : ℕ
@@ -53,17 +53,21 @@ withNumbers g [] = g
 withNumbers g (x ∷ xs) = withList (withNumber g x) xs
 
 -- "refused N"
-unfoldable pub withRefusal : Gathered → Refusal → Gathered
-withRefusal g e = withNumber (withText g (114 ∷ 101 ∷ 102 ∷ 117 ∷ 115 ∷ 101 ∷ 100 ∷ 32 ∷ [])) (refusal.numberOf e)
+unfoldable pub withRefusal : Gathered → ℕ → Gathered
+withRefusal g k = withNumber (withText g (114 ∷ 101 ∷ 102 ∷ 117 ∷ 115 ∷ 101 ∷ 100 ∷ 32 ∷ [])) k
 
--- a value, "none", "ok", "refused N" or "bad command"
-unfoldable pub withReply : Gathered → Reply → Gathered
-withReply g (reply.Value x) = withNumber g x
-withReply g reply.Nothing = withText g (110 ∷ 111 ∷ 110 ∷ 101 ∷ [])
-withReply g reply.Done = withText g (111 ∷ 107 ∷ [])
-withReply g (reply.Refused e) = withRefusal g e
-withReply g reply.Bad = withText g (98 ∷ 97 ∷ 100 ∷ 32 ∷ 99 ∷ 111 ∷ 109 ∷ 109 ∷ 97 ∷ 110 ∷ 100 ∷ [])
-withReply g reply.Unknown = withText g (98 ∷ 97 ∷ 100 ∷ 32 ∷ 99 ∷ 111 ∷ 109 ∷ 109 ∷ 97 ∷ 110 ∷ 100 ∷ [])
+-- a value, "none", "ok" or "refused N"
+unfoldable pub withAnswer : Gathered → Answer → Gathered
+withAnswer g (value x) = withNumber g x
+withAnswer g none = withText g (110 ∷ 111 ∷ 110 ∷ 101 ∷ [])
+withAnswer g done = withText g (111 ∷ 107 ∷ [])
+withAnswer g (refused k) = withRefusal g k
+
+-- an answer, or "bad command"
+unfoldable pub withSays : Gathered → Says → Gathered
+withSays g (answers a) = withAnswer g a
+withSays g bad = withText g (98 ∷ 97 ∷ 100 ∷ 32 ∷ 99 ∷ 111 ∷ 109 ∷ 109 ∷ 97 ∷ 110 ∷ 100 ∷ [])
+withSays g unknown = withText g (98 ∷ 97 ∷ 100 ∷ 32 ∷ 99 ∷ 111 ∷ 109 ∷ 109 ∷ 97 ∷ 110 ∷ 100 ∷ [])
 
 -- a name that some section knows
 abbrev pub known : Reply → Bool

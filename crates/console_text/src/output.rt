@@ -1,6 +1,8 @@
 // What the console writes: bytes gather in a buffer, which goes out whole when it is full. `at` is how many have gathered.
 ghost use mathlib.Core.Path.{_≡_};
-ghost use Rattle.console_text.specs.Gathered.{gathered, withByte, withText, roomAt, withNumber, withList, withNumbers, withRefusal, withReply, known};
+ghost use Rattle.console_text.specs.Gathered.{gathered, withByte, withText, roomAt, withNumber, withList, withNumbers, withRefusal, withSays, known};
+ghost use Rattle.console_text.specs.Says.{saysOf};
+ghost use Rattle.errors.specs.Refusal.{numberOf};
 use decimal::Written;
 use errors::Refusal;
 
@@ -129,14 +131,14 @@ pub fn line_end(out: &mut [u8; 65536], at: usize) -> usize
 }
 
 pub fn refusal(out: &mut [u8; 65536], at: usize, r: Refusal) -> usize
-    ensures { λ n. ⌜ gathered n (now (out .exit)) ≡ withRefusal (gathered at (now (out .entry))) r ⌝ }
+    ensures { λ n. ⌜ gathered n (now (out .exit)) ≡ withRefusal (gathered at (now (out .entry))) (numberOf r) ⌝ }
 {
     let to = text(out, at, b"refused ");
     number(out, to, errors::number(r))
 }
 
-fn answer(out: &mut [u8; 65536], at: usize, r: Reply) -> usize
-    ensures { λ n. ⌜ gathered n (now (out .exit)) ≡ withReply (gathered at (now (out .entry))) r ⌝ }
+pub fn answer(out: &mut [u8; 65536], at: usize, r: Reply) -> usize
+    ensures { λ n. ⌜ gathered n (now (out .exit)) ≡ withSays (gathered at (now (out .entry))) (saysOf r) ⌝ }
 {
     match r {
         Reply::Value(x) => number(out, at, x),
@@ -150,7 +152,7 @@ fn answer(out: &mut [u8; 65536], at: usize, r: Reply) -> usize
 
 // A whole line.
 pub fn reply_line(out: &mut [u8; 65536], at: usize, r: Reply) -> usize
-    ensures { λ n. ⌜ gathered n (now (out .exit)) ≡ withByte (withReply (gathered at (now (out .entry))) r) 10 ⌝ }
+    ensures { λ n. ⌜ gathered n (now (out .exit)) ≡ withByte (withSays (gathered at (now (out .entry))) (saysOf r)) 10 ⌝ }
 {
     let to = answer(out, at, r);
     line_end(out, to)

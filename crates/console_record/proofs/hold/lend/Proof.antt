@@ -5,7 +5,8 @@ use Prim.Native.Nat.{ℕ}
 use borrow.Author.Needs.{needs}
 use Rattle.errors.specs.Answer.{done}
 use Rattle.console_record.specs.declared.Record.{Record}
-use Rattle.console_record.specs.Section.{answers, turn, lending}
+use Rattle.console_text.specs.Says.{answers}
+use Rattle.console_record.specs.Section.{turn, lending}
 use Rattle.console_record.proofs.Telling.{lend-bad, lend-ok}
 use Rattle.console_record.proofs.hold.lend.Statement.{statement}
 use Rattle.console_record.proofs.hold.lend.Tie as tie

@@ -1,7 +1,9 @@
 -- `console_text::output::answer` meets its contract. Assumes nothing.
 use mathlib.Core.Path.{ap, sym, _∙_}
 use borrow.Author.Needs.{needs}
-use Rattle.console_text.specs.Gathered.{gathered, withReply}
+use Rattle.console_text.specs.Gathered.{gathered, withAnswer, withSays}
+use Rattle.console_text.specs.Says.{saysOf}
+use Rattle.console_text.specs.declared.output.Reply.{Reply}
 use Rattle.console_text.proofs.output.answer.Statement.{statement}
 use Rattle.console_text.proofs.output.answer.Tie as tie
 
@@ -54,28 +56,28 @@ text-requires-4 : tie.Need-text-requires-4
 text-requires-4 c κs = search needs
 
 returns : tie.Need-returns
-unfolding withReply
-returns c = c .number .ensures ∙ ap (withReply (gathered (c .before .before .before .before .before .args .at) (c .before .before .before .before .before .args .out .now))) (sym (c .before .before .before .r .given .1))
+unfolding withSays withAnswer
+returns c = c .number .ensures ∙ ap (λ (r : Reply). withSays (gathered (c .before .before .before .before .before .args .at) (c .before .before .before .before .before .args .out .now)) (saysOf r)) (sym (c .before .before .before .r .given .1))
 
 returns-2 : tie.Need-returns-2
-unfolding withReply
-returns-2 c = c .text .ensures ∙ ap (withReply (gathered (c .before .before .before .before .before .args .at) (c .before .before .before .before .before .args .out .now))) (sym (c .before .before .before .enum-told .given .1))
+unfolding withSays withAnswer
+returns-2 c = c .text .ensures ∙ ap (λ (r : Reply). withSays (gathered (c .before .before .before .before .before .args .at) (c .before .before .before .before .before .args .out .now)) (saysOf r)) (sym (c .before .before .before .enum-told .given .1))
 
 returns-3 : tie.Need-returns-3
-unfolding withReply
-returns-3 c = c .text2 .ensures ∙ ap (withReply (gathered (c .before .before .before .before .before .args .at) (c .before .before .before .before .before .args .out .now))) (sym (c .before .before .before .enum-told2 .given .1))
+unfolding withSays withAnswer
+returns-3 c = c .text2 .ensures ∙ ap (λ (r : Reply). withSays (gathered (c .before .before .before .before .before .args .at) (c .before .before .before .before .before .args .out .now)) (saysOf r)) (sym (c .before .before .before .enum-told2 .given .1))
 
 returns-4 : tie.Need-returns-4
-unfolding withReply
-returns-4 c = c .refusal .ensures ∙ ap (withReply (gathered (c .before .before .before .before .before .args .at) (c .before .before .before .before .before .args .out .now))) (sym (c .before .before .before .r2 .given .1))
+unfolding withSays withAnswer
+returns-4 c = c .refusal .ensures ∙ ap (λ (r : Reply). withSays (gathered (c .before .before .before .before .before .args .at) (c .before .before .before .before .before .args .out .now)) (saysOf r)) (sym (c .before .before .before .r2 .given .1))
 
 returns-5 : tie.Need-returns-5
-unfolding withReply
-returns-5 c = c .text3 .ensures ∙ ap (withReply (gathered (c .before .before .before .before .before .args .at) (c .before .before .before .before .before .args .out .now))) (sym (c .before .before .before .enum-told3 .given .1))
+unfolding withSays withAnswer
+returns-5 c = c .text3 .ensures ∙ ap (λ (r : Reply). withSays (gathered (c .before .before .before .before .before .args .at) (c .before .before .before .before .before .args .out .now)) (saysOf r)) (sym (c .before .before .before .enum-told3 .given .1))
 
 returns-6 : tie.Need-returns-6
-unfolding withReply
-returns-6 c = c .text4 .ensures ∙ ap (withReply (gathered (c .before .before .before .before .before .args .at) (c .before .before .before .before .before .args .out .now))) (sym (c .before .before .before .enum-told4 .given .1))
+unfolding withSays withAnswer
+returns-6 c = c .text4 .ensures ∙ ap (λ (r : Reply). withSays (gathered (c .before .before .before .before .before .args .at) (c .before .before .before .before .before .args .out .now)) (saysOf r)) (sym (c .before .before .before .enum-told4 .given .1))
 
 pub answer-spec : {M : Type 1} → statement M
 answer-spec =

@@ -1,11 +1,11 @@
--- `console_record::ask::value` meets its contract. Assumes nothing.
+-- `console_questions::ask::value` meets its contract. Assumes nothing.
 use mathlib.Core.Path.{ap, sym}
 use borrow.Author.Needs.{needs}
 use Rattle.elias_fano.specs.declared.image.Value.{Value}
 use Rattle.elias_fano.specs.Accept.{ofValue}
-use Rattle.console_record.specs.Section.{answers}
-use Rattle.console_record.proofs.ask.value.Statement.{statement}
-use Rattle.console_record.proofs.ask.value.Tie as tie
+use Rattle.console_text.specs.Says.{answers}
+use Rattle.console_questions.proofs.ask.value.Statement.{statement}
+use Rattle.console_questions.proofs.ask.value.Tie as tie
 
 enum-known-v : tie.Need-enum-known-v
 enum-known-v c = search needs

@@ -1,11 +1,12 @@
--- `console_record::ask::opened` meets its contract. Assumes nothing.
+-- `console_questions::ask::opened` meets its contract. Assumes nothing.
 use mathlib.Core.Path.{ap, sym}
 use borrow.Author.Needs.{needs}
 use Rattle.elias_fano.specs.declared.image.Opened.{Opened}
 use Rattle.elias_fano.specs.Accept.{ofOpened}
-use Rattle.console_record.specs.Section.{answers, openSays}
-use Rattle.console_record.proofs.ask.opened.Statement.{statement}
-use Rattle.console_record.proofs.ask.opened.Tie as tie
+use Rattle.console_text.specs.Says.{answers}
+use Rattle.console_questions.specs.Questions.{openSays}
+use Rattle.console_questions.proofs.ask.opened.Statement.{statement}
+use Rattle.console_questions.proofs.ask.opened.Tie as tie
 
 enum-told : tie.Need-enum-told
 enum-told c = search needs
