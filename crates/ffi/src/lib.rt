@@ -1,6 +1,7 @@
 // The record for C and Rust: a static library, thin over `elias_fano`. ffi/elias_fano.h says it in C, with who owns which words.
 ghost use mathlib.Core.Path.{_≡_};
-ghost use Rattle.elias_fano.specs.Accept.{openOf, selectOf};
+ghost use Rattle.elias_fano.specs.Accept.{openOf};
+ghost use Rattle.elias_fano.specs.Ask.{Select, query};
 ghost use Rattle.elias_fano.specs.Made.{made};
 ghost use Rattle.elias_fano.specs.Steps.{newOf, pushOf, buildOf};
 ghost use Rattle.ffi.specs.Answers.{ofBuilder, ofRefusal, efAnswer, efOpened, Told};
@@ -135,7 +136,7 @@ pub extern "C" fn ef_open(words: &[u64]) -> u64
 // The value with the number k.
 #[no_mangle]
 pub extern "C" fn ef_select(words: &[u64], k: usize) -> EfAnswer
-    ensures { λ r. ⌜ r ≡ efAnswer (selectOf (now (words .entry)) k) ⌝ }
+    ensures { λ r. ⌜ r ≡ efAnswer (query (now (words .entry)) (Select k)) ⌝ }
 {
     match image::select(words, k) {
         Value::Is(t) => EfAnswer {
