@@ -1,9 +1,11 @@
-//! Links the port's static library, which `rt staticlib bench_exports` writes.
+//! Links the port's static libraries, which `rt staticlib bench_exports` and `rt staticlib ffi` write.
 
 fn main() {
     let here = std::env::var("CARGO_MANIFEST_DIR").expect("cargo sets it");
     let libraries = format!("{here}/../target/staticlib");
-    println!("cargo:rerun-if-changed={libraries}/libbench_exports.a");
     println!("cargo:rustc-link-search=native={libraries}");
-    println!("cargo:rustc-link-lib=static=bench_exports");
+    for library in ["bench_exports", "ffi"] {
+        println!("cargo:rerun-if-changed={libraries}/lib{library}.a");
+        println!("cargo:rustc-link-lib=static={library}");
+    }
 }

@@ -1,11 +1,12 @@
-/* A monotone sequence (Elias-Fano) in words that the caller lends: write a record, finish it, read it.
+/* A monotone sequence (Elias-Fano) in words that the caller lends: write a record, finish it, ask it.
  *
  * Link with target/staticlib/libffi.a (`rt staticlib ffi` writes it; x86-64). It needs memcpy and memset of the C library and, as
  * measured, some 20 KB of stack.
  *
  * Words. A word is 64 bits. Every buffer belongs to the caller: no function keeps a pointer, allocates or frees. A call reads and
  * writes only the `len` words from the pointer on, and only while it runs. A pointer must be aligned to 8 bytes; with `len` 0 it is not
- * read. Two calls may run at once where neither writes words that the other uses.
+ * read. Words that a call writes must not be among those that it reads. Two calls may run at once where neither writes words that the other
+ * uses.
  *
  * How long a buffer must be, in words. u is the universe, n num_vals, m num_pushed; / rounds down, ceil rounds up.
  *    l        = the place of the highest one of u / n, 0 if u / n is 0
@@ -42,7 +43,9 @@ enum {
     EF_DECREASING = 4,      /* ef_push: the value is below the last one */
     EF_OUT_OF_UNIVERSE = 5, /* ef_push: the value is not below the universe */
     EF_FULL = 6,            /* ef_push: num_vals values were pushed */
-    EF_INVALID = 7          /* no run leaves such a builder (ef_push, ef_build), such words (ef_build) or such an image (ef_open, ef_select) */
+    EF_INVALID = 7,         /* no run leaves such a builder (ef_push, ef_build), such words (ef_build) or such an image (all that take one) */
+    EF_NO_RANK_INDEX = 8,   /* ef_rank, ef_predecessor, ef_successor: the image was built without rank */
+    EF_RANGE = 9            /* ef_binsearch_range: a range that is not empty ends past the values */
 };
 
 /* How far a record is written: 32 bytes. It may be copied and stored; one that no run leaves, as all zeros, is refused with 7. */
@@ -84,9 +87,61 @@ EfAnswer ef_build(EfBuilder builder, bool rank, uint64_t *buffer, size_t len);
 /* 0 if the words are an image that some run writes, else 7. `len` is the image's length, no more and no less. Linear time. */
 uint64_t ef_open(const uint64_t *image, size_t len);
 
-/* The value with the number k, counted from 0; EF_NONE from the number of values on. It decides 7 over the whole image first, in linear
- * time. */
+/* ---- one question a call
+ *
+ * Values are numbered from 0 in the order in which they were pushed. Each call decides 7 over the whole image first, in linear time: who
+ * asks often asks many at once. A question that needs the rank index is refused with 8 where there is none. */
+
+/* The value with the number k; EF_NONE from the number of values on. */
 EfAnswer ef_select(const uint64_t *image, size_t len, size_t k);
+
+/* The value with the number k less the one before it, and for k 0 the first value; EF_NONE from the number of values on. */
+EfAnswer ef_delta(const uint64_t *image, size_t len, size_t k);
+
+/* How many values are below `value`; EF_NONE above the universe. Needs the rank index below the universe. */
+EfAnswer ef_rank(const uint64_t *image, size_t len, uint64_t value);
+
+/* The greatest value at or below `value`; EF_NONE if there is none, and from the universe on. Needs the rank index but for the universe
+ * less 1, which asks for the last value. */
+EfAnswer ef_predecessor(const uint64_t *image, size_t len, uint64_t value);
+
+/* The smallest value at or above `value`; EF_NONE if there is none, and from the universe on. Needs the rank index. */
+EfAnswer ef_successor(const uint64_t *image, size_t len, uint64_t value);
+
+/* The number of a value that is `value`; EF_NONE if there is none. Of equal values it is the one that halving meets; once 64 or fewer remain,
+ * the first of these. Needs no rank index. */
+EfAnswer ef_binsearch(const uint64_t *image, size_t len, uint64_t value);
+
+/* The same among the values with the numbers from a on and below b; EF_NONE if a is not below b, else refused with 9 if b is over the number
+ * of values. */
+EfAnswer ef_binsearch_range(const uint64_t *image, size_t len, size_t a, size_t b, uint64_t value);
+
+/* How many values there are; whether there is none, 1 or 0; the universe; whether there is a rank index, 1 or 0. */
+EfAnswer ef_len(const uint64_t *image, size_t len);
+EfAnswer ef_is_empty(const uint64_t *image, size_t len);
+EfAnswer ef_universe(const uint64_t *image, size_t len);
+EfAnswer ef_has_rank(const uint64_t *image, size_t len);
+
+/* Writes the values with the numbers from k on to `out`, as many as there are or as it takes, and answers how many. The later words stay. */
+EfAnswer ef_read_from(const uint64_t *image, size_t len, size_t k, uint64_t *out, size_t out_len);
+
+/* ---- many questions a call
+ *
+ * The same questions with an array of arguments: 7 is decided once, and each question then costs what it is by itself. The answers go to
+ * `out`, two words to each, as an EfAnswer has them: an array of EfAnswer is lent by a cast of its pointer and twice its count,
+ *
+ *    EfAnswer answers[3];
+ *    ef_ranks(image, len, values, 3, (uint64_t *)answers, 6);
+ *
+ * As many are answered as both arrays hold, count or out_len / 2, whichever is less; that number is the answer of the call, and the later
+ * words of `out` stay. A question may be refused by itself, with 8. If the call is refused, with 7, `out` is as it was. */
+
+EfAnswer ef_selects(const uint64_t *image, size_t len, const uint64_t *ks, size_t count, uint64_t *out, size_t out_len);
+EfAnswer ef_deltas(const uint64_t *image, size_t len, const uint64_t *ks, size_t count, uint64_t *out, size_t out_len);
+EfAnswer ef_ranks(const uint64_t *image, size_t len, const uint64_t *values, size_t count, uint64_t *out, size_t out_len);
+EfAnswer ef_predecessors(const uint64_t *image, size_t len, const uint64_t *values, size_t count, uint64_t *out, size_t out_len);
+EfAnswer ef_successors(const uint64_t *image, size_t len, const uint64_t *values, size_t count, uint64_t *out, size_t out_len);
+EfAnswer ef_binsearches(const uint64_t *image, size_t len, const uint64_t *values, size_t count, uint64_t *out, size_t out_len);
 
 #ifdef __cplusplus
 }

@@ -1,5 +1,5 @@
-/* A record of burner starts in C: written, finished, read, refused once for each reason, and how long its buffers must be. `ffi/run`
- * builds and runs it. */
+/* A record of burner starts in C: written, finished, asked every question, kept in a file, refused once for each reason, and how long its
+ * buffers must be. `ffi/run` builds and runs it. */
 #include "elias_fano.h"
 #include <inttypes.h>
 #include <stdio.h>
@@ -151,9 +151,125 @@ static void going_on(void) {
     must(p.refusal == 0 && ef_open(buffer, built.value) == EF_INVALID, "a push into an image, which is none any more");
 }
 
+/* ---- every question */
+
+static bool is_value(EfAnswer a, uint64_t value) { return a.kind == EF_VALUE && a.value == value; }
+
+static bool is_none(EfAnswer a) { return a.kind == EF_NONE && a.value == 0; }
+
+static bool is_refused(EfAnswer a, uint64_t refusal) { return a.kind == EF_REFUSED && a.value == refusal; }
+
+/* The image of 3, 4, 4, 13 below 20. */
+static size_t image_of_four(bool rank, uint64_t *buffer, size_t len) {
+    static const uint64_t times[] = {3, 4, 4, 13};
+    EfPushed p = ef_new(20, 4, buffer, len);
+    for (size_t i = 0; i < 4; i++) {
+        p = ef_push(p.builder, times[i], buffer, len);
+    }
+    EfAnswer built = ef_build(p.builder, rank, buffer, len);
+    must(built.kind == EF_VALUE, "an image of four values");
+    return built.value;
+}
+
+static void questions(const uint64_t *w, size_t len) {
+    must(is_value(ef_delta(w, len, 0), 3) && is_value(ef_delta(w, len, 3), 9) && is_none(ef_delta(w, len, 4)), "delta");
+    must(is_value(ef_rank(w, len, 4), 1) && is_value(ef_rank(w, len, 5), 3), "rank");
+    must(is_value(ef_rank(w, len, 20), 4) && is_none(ef_rank(w, len, 21)), "rank from the universe on");
+    must(is_value(ef_predecessor(w, len, 12), 4) && is_none(ef_predecessor(w, len, 2)), "predecessor");
+    must(is_value(ef_predecessor(w, len, 19), 13) && is_none(ef_predecessor(w, len, 20)), "predecessor at the universe");
+    must(is_value(ef_successor(w, len, 5), 13) && is_none(ef_successor(w, len, 14)), "successor");
+    must(is_value(ef_binsearch(w, len, 4), 1) && is_none(ef_binsearch(w, len, 5)), "binsearch");
+    must(is_value(ef_binsearch_range(w, len, 2, 4, 4), 2) && is_none(ef_binsearch_range(w, len, 0, 1, 4)), "binsearch_range");
+    must(is_none(ef_binsearch_range(w, len, 9, 9, 4)) && is_refused(ef_binsearch_range(w, len, 0, 5, 4), EF_RANGE), "a range's ends");
+    must(is_value(ef_len(w, len), 4) && is_value(ef_is_empty(w, len), 0), "len, is_empty");
+    must(is_value(ef_universe(w, len), 20) && is_value(ef_has_rank(w, len), 1), "universe, has_rank");
+    uint64_t out[5] = {9, 9, 9, 9, 9};
+    must(is_value(ef_read_from(w, len, 1, out, 5), 3) && out[0] == 4 && out[2] == 13 && out[3] == 9, "read_from");
+    must(is_value(ef_read_from(w, len, 0, out, 1), 1) && out[0] == 3 && out[1] == 4, "read_from into one word");
+}
+
+/* Many at once are one after the other; three arguments, and room for two answers and a half. */
+static void at_once(const char *what, const uint64_t *w, size_t len, const uint64_t args[3],
+                    EfAnswer (*many)(const uint64_t *, size_t, const uint64_t *, size_t, uint64_t *, size_t), const EfAnswer one[3]) {
+    EfAnswer all[3] = {{5, 5}, {5, 5}, {5, 5}};
+    must(is_value(many(w, len, args, 3, (uint64_t *)all, 6), 3), what);
+    for (size_t i = 0; i < 3; i++) {
+        must(all[i].kind == one[i].kind && all[i].value == one[i].value, what);
+        all[i] = (EfAnswer){5, 5};
+    }
+    must(is_value(many(w, len, args, 3, (uint64_t *)all, 5), 2) && all[2].kind == 5 && all[2].value == 5, what);
+    all[0] = (EfAnswer){5, 5};
+    must(is_refused(many(w, len - 1, args, 3, (uint64_t *)all, 6), EF_INVALID) && all[0].kind == 5 && all[0].value == 5, what);
+}
+
+static void many_questions(const uint64_t *w, size_t n) {
+    static const uint64_t ks[3] = {3, 0, 4}, values[3] = {4, 20, 12};
+    at_once("selects", w, n, ks, ef_selects, (EfAnswer[3]){ef_select(w, n, 3), ef_select(w, n, 0), ef_select(w, n, 4)});
+    at_once("deltas", w, n, ks, ef_deltas, (EfAnswer[3]){ef_delta(w, n, 3), ef_delta(w, n, 0), ef_delta(w, n, 4)});
+    at_once("ranks", w, n, values, ef_ranks, (EfAnswer[3]){ef_rank(w, n, 4), ef_rank(w, n, 20), ef_rank(w, n, 12)});
+    at_once("predecessors", w, n, values, ef_predecessors, (EfAnswer[3]){ef_predecessor(w, n, 4), ef_predecessor(w, n, 20), ef_predecessor(w, n, 12)});
+    at_once("successors", w, n, values, ef_successors, (EfAnswer[3]){ef_successor(w, n, 4), ef_successor(w, n, 20), ef_successor(w, n, 12)});
+    at_once("binsearches", w, n, values, ef_binsearches, (EfAnswer[3]){ef_binsearch(w, n, 4), ef_binsearch(w, n, 20), ef_binsearch(w, n, 12)});
+}
+
+/* An image without the rank index answers what needs none. */
+static void without_rank(void) {
+    uint64_t w[16];
+    size_t len = image_of_four(false, w, 16);
+    must(is_value(ef_has_rank(w, len), 0) && is_value(ef_select(w, len, 1), 4) && is_value(ef_binsearch(w, len, 13), 3), "no rank index");
+    must(is_refused(ef_rank(w, len, 4), EF_NO_RANK_INDEX) && is_value(ef_rank(w, len, 20), 4), "rank with no index");
+    must(is_refused(ef_predecessor(w, len, 12), EF_NO_RANK_INDEX) && is_value(ef_predecessor(w, len, 19), 13), "predecessor with no index");
+    must(is_refused(ef_successor(w, len, 5), EF_NO_RANK_INDEX) && is_none(ef_successor(w, len, 20)), "successor with no index");
+    EfAnswer ranks[2];
+    must(is_value(ef_ranks(w, len, (const uint64_t[2]){4, 20}, 2, (uint64_t *)ranks, 4), 2), "ranks with no index");
+    must(is_refused(ranks[0], EF_NO_RANK_INDEX) && is_value(ranks[1], 4), "each rank by itself");
+
+    EfAnswer built = ef_build(ef_new(20, 4, w, 16).builder, true, w, 16);
+    must(built.kind == EF_VALUE && is_value(ef_is_empty(w, built.value), 1) && is_value(ef_len(w, built.value), 0), "an empty record");
+    must(is_none(ef_select(w, built.value, 0)) && is_value(ef_rank(w, built.value, 7), 0) && is_none(ef_successor(w, built.value, 0)), "and its answers");
+}
+
+/* ---- a file: 8 bytes a word, little end first */
+
+static void save(FILE *file, const uint64_t *w, size_t len) {
+    for (size_t i = 0; i < 8 * len; i++) {
+        must(fputc((int)(w[i / 8] >> (i % 8 * 8) & 0xff), file) != EOF, "a written byte");
+    }
+}
+
+static void load(FILE *file, uint64_t *w, size_t len) {
+    rewind(file);
+    memset(w, 0, len * sizeof *w);
+    for (size_t i = 0; i < 8 * len; i++) {
+        int byte = fgetc(file);
+        must(byte != EOF, "a read byte");
+        w[i / 8] |= (uint64_t)byte << (i % 8 * 8);
+    }
+}
+
+/* An image that is kept in a file is opened and asked again; with one byte changed it is refused. */
+static void kept(const uint64_t *w, size_t len) {
+    uint64_t back[16];
+    FILE *file = tmpfile();
+    must(file != NULL && len <= 16, "a file");
+    save(file, w, len);
+    load(file, back, len);
+    must(memcmp(back, w, len * sizeof *w) == 0 && ef_open(back, len) == 0 && is_value(ef_rank(back, len, 5), 3), "the image read back");
+    must(fseek(file, 8 * 6, SEEK_SET) == 0 && fputc((int)(w[6] & 0xff) ^ 1, file) != EOF, "a changed byte");
+    load(file, back, len);
+    must(ef_open(back, len) == EF_INVALID && is_refused(ef_rank(back, len, 5), EF_INVALID), "the image with a changed byte");
+    fclose(file);
+}
+
 int main(void) {
+    uint64_t image[16];
+    size_t len = image_of_four(true, image, 16);
     record();
     going_on();
+    questions(image, len);
+    many_questions(image, len);
+    without_rank();
+    kept(image, len);
     sizes(20, 4, 4, 3, true);
     sizes(0, 1, 0, 0, true);
     sizes(UINT64_MAX, 1, 1, 0, true);

@@ -1,4 +1,4 @@
-// A record of burner starts in Rust, over the same library. `ffi/run` builds and runs it.
+// A record of burner starts in Rust, over the same library, asked every question. `ffi/run` builds and runs it.
 #[repr(C)]
 #[derive(Clone, Debug, PartialEq)]
 struct EfBuilder {
@@ -15,6 +15,7 @@ struct EfPushed {
 }
 
 #[repr(C)]
+#[derive(Clone, Copy)]
 struct EfAnswer {
     kind: u64,
     value: u64,
@@ -33,6 +34,8 @@ enum Refusal {
     OutOfUniverse,
     Full,
     Invalid,
+    NoRankIndex,
+    Range,
 }
 
 fn refusal(number: u64) -> Refusal {
@@ -44,6 +47,8 @@ fn refusal(number: u64) -> Refusal {
         5 => Refusal::OutOfUniverse,
         6 => Refusal::Full,
         7 => Refusal::Invalid,
+        8 => Refusal::NoRankIndex,
+        9 => Refusal::Range,
         _ => unreachable!("the library has no other refusal"),
     }
 }
@@ -54,6 +59,68 @@ extern "C" {
     fn ef_build(builder: EfBuilder, rank: bool, buffer: *mut u64, len: usize) -> EfAnswer;
     fn ef_open(image: *const u64, len: usize) -> u64;
     fn ef_select(image: *const u64, len: usize, k: usize) -> EfAnswer;
+    fn ef_delta(image: *const u64, len: usize, k: usize) -> EfAnswer;
+    fn ef_rank(image: *const u64, len: usize, value: u64) -> EfAnswer;
+    fn ef_predecessor(image: *const u64, len: usize, value: u64) -> EfAnswer;
+    fn ef_successor(image: *const u64, len: usize, value: u64) -> EfAnswer;
+    fn ef_binsearch(image: *const u64, len: usize, value: u64) -> EfAnswer;
+    fn ef_binsearch_range(image: *const u64, len: usize, a: usize, b: usize, value: u64) -> EfAnswer;
+    fn ef_len(image: *const u64, len: usize) -> EfAnswer;
+    fn ef_is_empty(image: *const u64, len: usize) -> EfAnswer;
+    fn ef_universe(image: *const u64, len: usize) -> EfAnswer;
+    fn ef_has_rank(image: *const u64, len: usize) -> EfAnswer;
+    fn ef_read_from(image: *const u64, len: usize, k: usize, out: *mut u64, out_len: usize) -> EfAnswer;
+    fn ef_selects(image: *const u64, len: usize, ks: *const u64, count: usize, out: *mut u64, out_len: usize) -> EfAnswer;
+    fn ef_deltas(image: *const u64, len: usize, ks: *const u64, count: usize, out: *mut u64, out_len: usize) -> EfAnswer;
+    fn ef_ranks(image: *const u64, len: usize, values: *const u64, count: usize, out: *mut u64, out_len: usize) -> EfAnswer;
+    fn ef_predecessors(image: *const u64, len: usize, values: *const u64, count: usize, out: *mut u64, out_len: usize) -> EfAnswer;
+    fn ef_successors(image: *const u64, len: usize, values: *const u64, count: usize, out: *mut u64, out_len: usize) -> EfAnswer;
+    fn ef_binsearches(image: *const u64, len: usize, values: *const u64, count: usize, out: *mut u64, out_len: usize) -> EfAnswer;
+}
+
+/// A value, a plain none, or a refusal.
+type Answer = Result<Option<u64>, Refusal>;
+
+fn answer(a: EfAnswer) -> Answer {
+    match a.kind {
+        EF_VALUE => Ok(Some(a.value)),
+        EF_NONE => Ok(None),
+        _ => Err(refusal(a.value)),
+    }
+}
+
+/// A question with a number or a value, and the same with many.
+type One = unsafe extern "C" fn(*const u64, usize, u64) -> EfAnswer;
+type ByNumber = unsafe extern "C" fn(*const u64, usize, usize) -> EfAnswer;
+type Plain = unsafe extern "C" fn(*const u64, usize) -> EfAnswer;
+type Many = unsafe extern "C" fn(*const u64, usize, *const u64, usize, *mut u64, usize) -> EfAnswer;
+
+fn one(question: One, image: &[u64], value: u64) -> Answer {
+    answer(unsafe { question(image.as_ptr(), image.len(), value) })
+}
+
+fn by_number(question: ByNumber, image: &[u64], k: usize) -> Answer {
+    answer(unsafe { question(image.as_ptr(), image.len(), k) })
+}
+
+fn plain(question: Plain, image: &[u64]) -> Answer {
+    answer(unsafe { question(image.as_ptr(), image.len()) })
+}
+
+fn many(question: Many, image: &[u64], args: &[u64]) -> Result<Vec<Answer>, Refusal> {
+    let mut out = vec![EfAnswer { kind: 9, value: 9 }; args.len()];
+    let words = out.as_mut_ptr().cast();
+    let a = unsafe { question(image.as_ptr(), image.len(), args.as_ptr(), args.len(), words, 2 * args.len()) };
+    let count = answer(a)?.expect("a number") as usize;
+    Ok(out[..count].iter().map(|&a| answer(a)).collect())
+}
+
+fn binsearch_range(image: &[u64], a: usize, b: usize, value: u64) -> Answer {
+    answer(unsafe { ef_binsearch_range(image.as_ptr(), image.len(), a, b, value) })
+}
+
+fn read_from(image: &[u64], k: usize, out: &mut [u64]) -> Answer {
+    answer(unsafe { ef_read_from(image.as_ptr(), image.len(), k, out.as_mut_ptr(), out.len()) })
 }
 
 fn new(universe: u64, num_vals: u64, buffer: &mut [u64]) -> Result<EfBuilder, Refusal> {
@@ -80,13 +147,76 @@ fn open(image: &[u64]) -> Result<(), Refusal> {
     }
 }
 
-fn select(image: &[u64], k: usize) -> Result<Option<u64>, Refusal> {
-    let a = unsafe { ef_select(image.as_ptr(), image.len(), k) };
-    match a.kind {
-        EF_VALUE => Ok(Some(a.value)),
-        EF_NONE => Ok(None),
-        _ => Err(refusal(a.value)),
+fn select(image: &[u64], k: usize) -> Answer {
+    by_number(ef_select, image, k)
+}
+
+// ---- what each question answers, by the list
+
+fn gap(times: &[u64], k: usize) -> Option<u64> {
+    Some(times.get(k)? - if k == 0 { 0 } else { times[k - 1] })
+}
+
+fn below(times: &[u64], value: u64) -> u64 {
+    times.partition_point(|&t| t < value) as u64
+}
+
+fn at_most(times: &[u64], value: u64) -> Option<u64> {
+    times[..times.partition_point(|&t| t <= value)].last().copied()
+}
+
+fn at_least(times: &[u64], value: u64) -> Option<u64> {
+    times[below(times, value) as usize..].first().copied()
+}
+
+/// Every question by the many, each answer as the list has it, and some by themselves. The list ends below the universe.
+fn questions(image: &[u64], times: &[u64], universe: u64) {
+    let ks: Vec<u64> = (0..times.len() as u64 + 3).collect();
+    let select = |k: u64| Ok(times.get(k as usize).copied());
+    assert_eq!(many(ef_selects, image, &ks).unwrap(), ks.iter().map(|&k| select(k)).collect::<Vec<_>>());
+    let delta = |k: u64| Ok(gap(times, k as usize));
+    assert_eq!(many(ef_deltas, image, &ks).unwrap(), ks.iter().map(|&k| delta(k)).collect::<Vec<_>>());
+
+    let values: Vec<u64> = (0..universe + 3).step_by(101).chain(times.iter().copied()).chain(universe - 1..universe + 3).collect();
+    let check = |name: &str, all: Many, alone: One, by_list: &dyn Fn(u64) -> Option<u64>| {
+        let answers = many(all, image, &values).unwrap();
+        assert_eq!(answers, values.iter().map(|&v| Ok(by_list(v))).collect::<Vec<_>>(), "{name}");
+        for i in (0..values.len()).step_by(997) {
+            assert_eq!(one(alone, image, values[i]), answers[i], "{name}");
+        }
+    };
+    let inside = |v: u64, answer: Option<u64>| if v < universe { answer } else { None };
+    check("rank", ef_ranks, ef_rank, &|v| (v <= universe).then(|| below(times, v)));
+    check("predecessor", ef_predecessors, ef_predecessor, &|v| inside(v, at_most(times, v)));
+    check("successor", ef_successors, ef_successor, &|v| inside(v, at_least(times, v)));
+
+    // of equal values any is found
+    for (v, found) in values.iter().zip(many(ef_binsearches, image, &values).unwrap()) {
+        assert_eq!(found.unwrap().map(|k| times[k as usize]), times.binary_search(v).ok().map(|_| *v));
     }
+    assert_eq!(many(ef_ranks, &image[1..], &values), Err(Refusal::Invalid));
+}
+
+/// The questions that take no value, the range of a search, and reading out.
+fn other_questions(image: &[u64], times: &[u64], universe: u64) {
+    let n = times.len();
+    assert_eq!(plain(ef_len, image), Ok(Some(n as u64)));
+    assert_eq!(plain(ef_is_empty, image), Ok(Some(0)));
+    assert_eq!(plain(ef_universe, image), Ok(Some(universe)));
+    assert_eq!(plain(ef_has_rank, image), Ok(Some(1)));
+    assert_eq!(by_number(ef_delta, image, n - 1), Ok(gap(times, n - 1)));
+    let found = one(ef_binsearch, image, times[1_000]).unwrap().unwrap() as usize;
+    assert_eq!(times[found], times[1_000]);
+    let last = times[n - 1];
+    assert_eq!(binsearch_range(image, n - 1, n, last), Ok(Some(n as u64 - 1)));
+    assert_eq!(binsearch_range(image, 0, n, last + 1), Ok(None));
+    assert_eq!(binsearch_range(image, 7, 7, last), Ok(None));
+    assert_eq!(binsearch_range(image, 0, n + 1, last), Err(Refusal::Range));
+    let mut out = vec![u64::MAX; n];
+    assert_eq!(read_from(image, 1_000, &mut out), Ok(Some(n as u64 - 1_000)));
+    assert_eq!(out[..n - 1_000], times[1_000..]);
+    assert_eq!(out[n - 1_000..], [u64::MAX; 1_000]);
+    assert_eq!(read_from(image, n, &mut out), Ok(Some(0)));
 }
 
 // What ef_new zeroes, as in elias_fano.h.
@@ -123,6 +253,9 @@ fn main() {
     let Err((Refusal::ShortBuffer, b)) = build(b, true, &mut buffer) else { panic!("the image is longer than the start") };
     assert_eq!(buffer, before);
     buffer.resize(2 * start, u64::MAX);
+    let mut plain = buffer.clone();
+    let plain_len = build(b.clone(), false, &mut plain).unwrap();
+    assert_eq!(one(ef_rank, &plain[..plain_len], now), Err(Refusal::NoRankIndex));
     let len = build(b, true, &mut buffer).unwrap();
 
     let image = &buffer[..len];
@@ -133,6 +266,8 @@ fn main() {
     }
     assert_eq!(select(image, 5_000), Ok(None));
     assert_eq!(select(&[], 0), Err(Refusal::Invalid));
+    questions(image, &times, now + 1);
+    other_questions(image, &times, now + 1);
     // a file has 8 bytes a word, little end first
     let file: Vec<u8> = image.iter().flat_map(|w| w.to_le_bytes()).collect();
     let read: Vec<u64> = file.chunks(8).map(|b| u64::from_le_bytes(b.try_into().unwrap())).collect();

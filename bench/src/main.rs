@@ -1,6 +1,7 @@
 //! Times the port beside the crate sucds on the same words, compares what they answer, and prints a table.
 
 mod port;
+mod questions;
 mod record;
 mod rust;
 mod table;
@@ -9,6 +10,7 @@ use std::hint::black_box;
 
 use sucds::bit_vectors::BitVector;
 
+use questions::Equal;
 use record::Record;
 use table::Table;
 
@@ -211,10 +213,14 @@ fn main() {
         .into_iter()
         .filter_map(|n| Record::new(n, random))
         .collect();
+    let equal = Equal::new();
     for _ in 0..ROUNDS {
         round(&mut table);
         for record in &records {
             record.rows(&mut table);
+        }
+        if let Some(equal) = &equal {
+            equal.row(&mut table);
         }
     }
     table.print();

@@ -1,6 +1,33 @@
-//! The port's functions, as crates/bench_exports has them. A slice crosses as a pointer and a count.
+//! The port's functions, as crates/bench_exports has them, and those of crates/ffi for a record. A slice crosses as a pointer and a count.
+
+/// How far a record is written, as ffi/elias_fano.h has it.
+#[repr(C)]
+pub struct Builder {
+    universe: u64,
+    num_vals: u64,
+    num_pushed: u64,
+    last: u64,
+}
+
+/// An answer, as ffi/elias_fano.h has it: two words.
+#[repr(C)]
+#[derive(Clone, Copy, Default)]
+pub struct Answer {
+    kind: u64,
+    value: u64,
+}
+
+impl Answer {
+    /// The value or a plain none; no question of the bench is refused.
+    pub fn get(self) -> Option<u64> {
+        assert!(self.kind < 2, "refused with {}", self.value);
+        (self.kind == 0).then_some(self.value)
+    }
+}
 
 mod c {
+    use super::Answer;
+
     extern "C" {
         pub fn bench_popcount(words: *const u64, n: usize) -> u64;
         pub fn bench_lsb(words: *const u64, n: usize) -> u64;
@@ -55,16 +82,64 @@ mod c {
             buffer: *mut u64,
             m: usize,
         ) -> u64;
-        pub fn bench_record_build(
-            universe: u64,
-            num_vals: u64,
-            last: u64,
-            rank: bool,
-            buffer: *mut u64,
+        pub fn bench_record_walk(image: *const u64, n: usize, steps: usize) -> u64;
+        pub fn ef_build(builder: super::Builder, rank: bool, buffer: *mut u64, n: usize) -> Answer;
+        pub fn ef_open(image: *const u64, n: usize) -> u64;
+        pub fn ef_read_from(
+            image: *const u64,
             n: usize,
-        ) -> u64;
-        pub fn bench_record_open(image: *const u64, n: usize) -> u64;
-        pub fn bench_record_select(image: *const u64, n: usize, ks: *const usize, m: usize) -> u64;
+            k: usize,
+            out: *mut u64,
+            m: usize,
+        ) -> Answer;
+        pub fn ef_selects(
+            i: *const u64,
+            n: usize,
+            a: *const u64,
+            m: usize,
+            o: *mut u64,
+            j: usize,
+        ) -> Answer;
+        pub fn ef_deltas(
+            i: *const u64,
+            n: usize,
+            a: *const u64,
+            m: usize,
+            o: *mut u64,
+            j: usize,
+        ) -> Answer;
+        pub fn ef_ranks(
+            i: *const u64,
+            n: usize,
+            a: *const u64,
+            m: usize,
+            o: *mut u64,
+            j: usize,
+        ) -> Answer;
+        pub fn ef_predecessors(
+            i: *const u64,
+            n: usize,
+            a: *const u64,
+            m: usize,
+            o: *mut u64,
+            j: usize,
+        ) -> Answer;
+        pub fn ef_successors(
+            i: *const u64,
+            n: usize,
+            a: *const u64,
+            m: usize,
+            o: *mut u64,
+            j: usize,
+        ) -> Answer;
+        pub fn ef_binsearches(
+            i: *const u64,
+            n: usize,
+            a: *const u64,
+            m: usize,
+            o: *mut u64,
+            j: usize,
+        ) -> Answer;
     }
 }
 
@@ -160,7 +235,7 @@ pub fn record_push(universe: u64, times: &[u64], buffer: &mut [u64]) -> u64 {
     }
 }
 
-/// How many words the image of a full record has; 0 where it is refused.
+/// How many words the image of a full record has.
 pub fn record_build(
     universe: u64,
     num_vals: usize,
@@ -168,23 +243,48 @@ pub fn record_build(
     rank: bool,
     buffer: &mut [u64],
 ) -> usize {
-    unsafe {
-        c::bench_record_build(
-            universe,
-            num_vals as u64,
-            last,
-            rank,
-            buffer.as_mut_ptr(),
-            buffer.len(),
-        ) as usize
-    }
+    let builder = Builder {
+        universe,
+        num_vals: num_vals as u64,
+        num_pushed: num_vals as u64,
+        last,
+    };
+    let built = unsafe { c::ef_build(builder, rank, buffer.as_mut_ptr(), buffer.len()) };
+    built.get().expect("a length") as usize
 }
 
-/// How many times an image holds; 0 where it is refused.
+/// 0 if the words are an image.
 pub fn record_open(image: &[u64]) -> u64 {
-    unsafe { c::bench_record_open(image.as_ptr(), image.len()) }
+    unsafe { c::ef_open(image.as_ptr(), image.len()) }
 }
 
-pub fn record_select(image: &[u64], ks: &[usize]) -> u64 {
-    unsafe { c::bench_record_select(image.as_ptr(), image.len(), ks.as_ptr(), ks.len()) }
+/// The sum of the times that so many steps from the first give.
+pub fn record_walk(image: &[u64], steps: usize) -> u64 {
+    unsafe { c::bench_record_walk(image.as_ptr(), image.len(), steps) }
+}
+
+/// How many times from the first on were written.
+pub fn record_read(image: &[u64], out: &mut [u64]) -> u64 {
+    let read =
+        unsafe { c::ef_read_from(image.as_ptr(), image.len(), 0, out.as_mut_ptr(), out.len()) };
+    read.get().expect("a number")
+}
+
+/// Many questions at once.
+pub type Many =
+    unsafe extern "C" fn(*const u64, usize, *const u64, usize, *mut u64, usize) -> Answer;
+
+pub const SELECTS: Many = c::ef_selects;
+pub const DELTAS: Many = c::ef_deltas;
+pub const RANKS: Many = c::ef_ranks;
+pub const PREDECESSORS: Many = c::ef_predecessors;
+pub const SUCCESSORS: Many = c::ef_successors;
+pub const BINSEARCHES: Many = c::ef_binsearches;
+
+/// How many questions were answered: all.
+pub fn record_ask(ask: Many, image: &[u64], args: &[u64], out: &mut [Answer]) -> u64 {
+    let words = out.as_mut_ptr().cast();
+    let (n, m) = (image.len(), args.len());
+    let answered = unsafe { ask(image.as_ptr(), n, args.as_ptr(), m, words, 2 * out.len()) };
+    answered.get().expect("a number")
 }

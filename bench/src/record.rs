@@ -1,25 +1,17 @@
-//! The rows of the record: a burner's times pushed, built, opened and asked for.
+//! The rows of the record: a burner's times pushed, built and opened; what is asked of it is in questions.rs.
 
 use std::hint::black_box;
 
 use sucds::mii_sequences::{EliasFano, EliasFanoBuilder};
 
+use crate::questions::{self, Questions};
 use crate::table::{is_asked, Table};
 use crate::{port, rust, Random};
 
 /// The longest time between two readings, in seconds.
 const LONGEST: usize = 1800;
 
-/// How often an image is asked.
-const QUESTIONS: usize = 1_000_000;
-
-const ROWS: [&str; 5] = [
-    "push",
-    "build",
-    "build with rank",
-    "open with rank",
-    "select",
-];
+const ROWS: [&str; 4] = ["push", "build", "build with rank", "open with rank"];
 
 /// Both sides' record of one list.
 pub struct Record {
@@ -30,7 +22,7 @@ pub struct Record {
     record: EliasFano,
     pushed: Vec<u64>,
     image: Vec<u64>,
-    ks: Vec<usize>,
+    questions: Questions,
 }
 
 /// Times in order, with gaps of a burner.
@@ -42,19 +34,23 @@ fn burner(n: usize, random: &mut Random) -> Vec<u64> {
     (0..n).scan(0, gap).collect()
 }
 
-fn name(row: &str, n: usize) -> String {
+pub fn name(row: &str, n: usize) -> String {
     format!("record {row}, {n} times")
 }
 
 /// The targets are for a million times.
-fn at_a_million(n: usize, target: f64) -> Option<f64> {
+pub fn at_a_million(n: usize, target: f64) -> Option<f64> {
     (n == 1_000_000).then_some(target)
 }
 
 impl Record {
     /// None where no row is asked for. What both sides write is compared, word for word.
     pub fn new(n: usize, random: &mut Random) -> Option<Self> {
-        if !ROWS.iter().any(|row| is_asked(&name(row, n))) {
+        if !ROWS
+            .iter()
+            .chain(&questions::ROWS)
+            .any(|row| is_asked(&name(row, n)))
+        {
             return None;
         }
         let times = burner(n, random);
@@ -81,9 +77,9 @@ impl Record {
                 "rank {rank}, {n} times"
             );
         }
-        assert_eq!(port::record_open(&image), n as u64);
+        assert_eq!(port::record_open(&image), 0);
 
-        let ks = random.places(QUESTIONS, n);
+        let questions = Questions::new(&times, universe, random);
         Some(Self {
             times,
             last,
@@ -92,13 +88,13 @@ impl Record {
             record,
             pushed,
             image,
-            ks,
+            questions,
         })
     }
 
     pub fn rows(&self, table: &mut Table) {
         let n = self.times.len();
-        let [push, build, build_ranked, open, select] = ROWS.map(|row| name(row, n));
+        let [push, build, build_ranked, open] = ROWS.map(|row| name(row, n));
         let mut buffer = self.pushed.clone();
         table.row_with(
             &push,
@@ -143,13 +139,6 @@ impl Record {
             rust_build(true),
             (|| (), |()| port::record_open(black_box(&self.image))),
         );
-        table.same_after(
-            &select,
-            QUESTIONS,
-            at_a_million(n, 1.0),
-            || rust::record_select(black_box(&self.record), &self.ks),
-            || port::record_select(black_box(&self.image), &self.ks),
-            || port::record_select(black_box(&self.image), &[]),
-        );
+        self.questions.rows(table, n, &self.record, &self.image);
     }
 }

@@ -105,10 +105,28 @@ pub fn record_build(b: EliasFanoBuilder, rank: bool) -> EliasFano {
     }
 }
 
+/// Each answer goes to the lent words, as the port's do.
 #[inline(never)]
-pub fn record_select(ef: &EliasFano, ks: &[usize]) -> u64 {
-    let time = |&k: &usize| ef.select(k).unwrap_or(ef.universe()) as usize;
-    total(ks.iter().map(time))
+pub fn record_ask(ask: impl Fn(u64) -> Option<u64>, args: &[u64], out: &mut [Option<u64>]) {
+    for (&x, out) in args.iter().zip(out) {
+        *out = ask(x);
+    }
+}
+
+#[inline(never)]
+pub fn record_walk(ef: &EliasFano, steps: usize) -> u64 {
+    ef.iter(0).take(steps).fold(0, u64::wrapping_add)
+}
+
+/// How many times from the first on were written.
+#[inline(never)]
+pub fn record_read(ef: &EliasFano, out: &mut [u64]) -> u64 {
+    let mut read = 0;
+    for (out, t) in out.iter_mut().zip(ef.iter(0)) {
+        *out = t;
+        read += 1;
+    }
+    read
 }
 
 /// The record as the port writes it: the header, the high words, the low words, the indexes. The Rust does not keep the declared count.

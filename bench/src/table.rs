@@ -14,11 +14,27 @@ const AT_MOST: f64 = 5e8;
 
 struct Row {
     what: String,
-    items: usize,
+    items: Items,
     target: Option<f64>,
     rust: f64,
     port: f64,
     port_before: f64,
+}
+
+/// How many items a call of the Rust handles, and how many one of the port: the same but where one side is too slow for it.
+#[derive(Clone, Copy)]
+pub struct Items {
+    pub rust: usize,
+    pub port: usize,
+}
+
+impl From<usize> for Items {
+    fn from(items: usize) -> Self {
+        Self {
+            rust: items,
+            port: items,
+        }
+    }
 }
 
 #[derive(Default)]
@@ -62,7 +78,7 @@ fn timed_with<A, T>(
 
 impl Table {
     /// Keeps the best of the Rust, of the port, and of what the port does before, which is taken off its time.
-    fn keep(&mut self, what: &str, items: usize, target: Option<f64>, mut sides: [Timed; 3]) {
+    fn keep(&mut self, what: &str, items: Items, target: Option<f64>, mut sides: [Timed; 3]) {
         if !is_asked(what) {
             return;
         }
@@ -103,7 +119,7 @@ impl Table {
     ) {
         self.keep(
             what,
-            items,
+            items.into(),
             target,
             [&mut timed(rust), &mut timed(port), &mut |_| 0.0],
         );
@@ -120,7 +136,7 @@ impl Table {
     ) {
         self.keep(
             what,
-            items,
+            items.into(),
             target,
             [
                 &mut timed_with(rust.0, rust.1),
@@ -143,20 +159,19 @@ impl Table {
         self.row(what, items, target, rust, port);
     }
 
-    /// The same for a function of the port that first does something else: what that takes alone is taken off.
-    pub fn same_after(
+    /// Times a function of the port that first does something else: what that takes alone is taken off.
+    pub fn row_after<T, U>(
         &mut self,
         what: &str,
-        items: usize,
+        items: impl Into<Items>,
         target: Option<f64>,
-        rust: impl Fn() -> u64,
-        port: impl Fn() -> u64,
-        port_before: impl Fn() -> u64,
+        rust: impl FnMut() -> T,
+        port: impl FnMut() -> U,
+        port_before: impl FnMut() -> U,
     ) {
-        assert_eq!(rust(), port(), "{what}");
         self.keep(
             what,
-            items,
+            items.into(),
             target,
             [&mut timed(rust), &mut timed(port), &mut timed(port_before)],
         );
@@ -166,15 +181,16 @@ impl Table {
         println!("| what | Rust, ns | port, ns | port / Rust | target | |");
         println!("|---|---:|---:|---:|---:|---|");
         for row in &self.rows {
-            let rust = row.rust / row.items as f64;
-            let port = (row.port - row.port_before) / row.items as f64;
+            let rust = row.rust / row.items.rust as f64;
+            let port = (row.port - row.port_before) / row.items.port as f64;
             let ratio = port / rust;
+            let digits = if ratio < 0.01 { 5 } else { 2 };
             let (target, verdict) = match row.target {
                 Some(t) => (format!("{t:?}"), if ratio <= t { "met" } else { "missed" }),
                 None => (String::new(), ""),
             };
             println!(
-                "| {} | {rust:.2} | {port:.2} | {ratio:.2} | {target} | {verdict} |",
+                "| {} | {rust:.2} | {port:.2} | {ratio:.digits$} | {target} | {verdict} |",
                 row.what
             );
         }

@@ -1,15 +1,17 @@
-// The record: a whole list pushed, a full record built, an image opened, and one image asked for many times.
+// The record: a whole list pushed, and a walk. What else the bench asks of a record it asks through the library for C.
+ghost use Rattle.elias_fano_walk.specs.Walking.{Walkable, WalkOver};
+use broadword::debruijn64_table;
 use broadword::select_in_byte_table;
-use elias_fano::builder::Builder;
-use elias_fano::builder::Built;
 use elias_fano::builder::Pushed;
-use elias_fano::builder::build;
 use elias_fano::builder::new;
 use elias_fano::builder::push;
 use elias_fano::image::Opened;
+use elias_fano::image::Parts;
 use elias_fano::image::Value;
 use elias_fano::image::open;
-use elias_fano::image::select_opened;
+use elias_fano_walk::walk::Walk;
+use elias_fano_walk::walk::begin;
+use elias_fano_walk::walk::next;
 use std::num::wrapping_add_u64;
 
 // Pushes the times into a fresh record: how many it took.
@@ -35,36 +37,6 @@ pub extern "C" fn bench_record_push(
     b.num_pushed
 }
 
-// Builds the image of a full record: how many words it has.
-#[no_mangle]
-pub extern "C" fn bench_record_build(
-    universe: u64,
-    num_vals: u64,
-    last: u64,
-    rank: bool,
-    buffer: &mut [u64],
-) -> u64 {
-    let b = Builder {
-        universe,
-        num_vals,
-        num_pushed: num_vals,
-        last,
-    };
-    match build(b, rank, &mut *buffer) {
-        Built::Words(n) => n as u64,
-        Built::Refused(_) => 0,
-    }
-}
-
-// Opens an image: how many times it holds.
-#[no_mangle]
-pub extern "C" fn bench_record_open(image: &[u64]) -> u64 {
-    match open(image) {
-        Opened::Image(p) => p.num_pushed,
-        Opened::Refused(_) => 0,
-    }
-}
-
 fn time_or(value: Value, none: u64) -> u64 {
     match value {
         Value::Is(t) => t,
@@ -73,21 +45,31 @@ fn time_or(value: Value, none: u64) -> u64 {
     }
 }
 
-// The times with these numbers: the image is opened and the table made once.
+// So many steps of a walk: the sum of what they give, a none as 0.
+fn walk_on(image: &[u64], p: Parts, from: Walk, places: &[u8; 64], steps: usize) -> u64
+    requires { ⌜ (Walkable (now image) p (now places) × WalkOver (now image) p from) ⌝ }
+{
+    let mut w = from;
+    let mut sum: u64 = 0;
+    let mut i: usize = 0;
+    while i < steps {
+        let s = next(image, p, w, places);
+        let value = s.value;
+        sum = wrapping_add_u64(sum, time_or(value, 0));
+        let rest = s.walk;
+        w = rest;
+        i += 1;
+    }
+    sum
+}
+
+// A walk over an image from its first time on. The image is opened and the tables made once.
 #[no_mangle]
-pub extern "C" fn bench_record_select(image: &[u64], ks: &[usize]) -> u64 {
+pub extern "C" fn bench_record_walk(image: &[u64], steps: usize) -> u64 {
     let Opened::Image(p) = open(image) else {
         return 0;
     };
     let table = select_in_byte_table();
-    let mut sum: u64 = 0;
-    let mut i: usize = 0;
-    while i < ks.len() {
-        sum = wrapping_add_u64(
-            sum,
-            time_or(select_opened(image, p, ks[i], &table), p.universe),
-        );
-        i += 1;
-    }
-    sum
+    let places = debruijn64_table();
+    walk_on(image, p, begin(image, p, 0, &table), &places, steps)
 }

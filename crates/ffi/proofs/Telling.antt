@@ -4,7 +4,7 @@ use mathlib.Core.List.{List}
 use mathlib.Core.Bool.{Bool, false, cond}
 use Prim.Native.Nat.{ℕ}
 use lib.Dec.{eqb}
-use Rattle.errors.specs.Answer.{Answer, value, none, done, refused}
+use Rattle.errors.specs.Answer.{Answer, value, done, refused, Outcome}
 use Rattle.errors.specs.Refusal.{numberOf}
 use Rattle.errors.specs.declared.Refusal.{Refusal}
 use Rattle.errors.specs.declared.Refusal.the-variants.{NoValues, TooMany, ShortBuffer, Decreasing, OutOfUniverse, Full, Invalid, NoRankIndex, RangeOutOfBounds, NoBits, NoOnes, SumTooLarge, InvalidBits, WideBits, NoRoom, OutOfBounds}
@@ -16,11 +16,13 @@ use Rattle.elias_fano.specs.declared.builder.Pushed.the-variants as pushed
 use Rattle.elias_fano.specs.declared.image.Opened.{Opened}
 use Rattle.elias_fano.specs.declared.image.Opened.the-variants as opened
 use Rattle.elias_fano.specs.declared.image.Parts.{Parts}
-use Rattle.elias_fano.specs.declared.image.Value.{Value}
-use Rattle.elias_fano.specs.declared.image.Value.the-variants as val
-use Rattle.elias_fano.specs.Accept.{Opening, ofOpened, ofValue}
+use Rattle.elias_fano.specs.Accept.{Opening, ofOpened}
 use Rattle.elias_fano.specs.Made.{Made, made, ofPushed, ofBuilt}
-use Rattle.ffi.specs.Answers.{ofRefusal, efOpened}
+use Rattle.elias_fano_queries.specs.declared.header.Truth.{Truth}
+use Rattle.elias_fano_queries.specs.declared.header.Truth.the-variants as truth
+use Rattle.elias_fano_queries.specs.Truth.{ofTruth}
+use Rattle.broadword.specs.Fields.{flag}
+use Rattle.ffi.specs.Answers.{ofRefusal, efAnswer, efOpened}
 
 -- no refusal has the number 0
 number-some : (e : Refusal) → eqb (numberOf e) 0 ≡ false
@@ -73,14 +75,20 @@ module _ (r : Opened) (a : Opening) (er : ofOpened r ≡ a) where
   pub refusal-told : (e : Refusal) (k : ℕ) → r ≡ opened.Refused e → k ≡ numberOf e → k ≡ efOpened a
   refusal-told e k q h = h ∙ ap efOpened (sym (ap ofOpened q) ∙ er)
 
--- ---- select
+-- ---- a question
 
-module _ (r : Value) (a : Answer) (er : ofValue r ≡ a) where
-  pub value-told : (t : ℕ) → r ≡ val.Is t → value t ≡ a
-  value-told t e = sym (ap ofValue e) ∙ er
+-- of any enum with an answer for each case
+module _ {E : Type 0} (of : E → Answer) (v x : E) (e : v ≡ x) where
+  pub case-told : efAnswer (of x) ≡ efAnswer (of v)
+  case-told = ap (λ (y : E). efAnswer (of y)) (sym e)
 
-  pub none-told : r ≡ val.Nothing → none ≡ a
-  none-told e = sym (ap ofValue e) ∙ er
+  pub no-case-told : (k n : ℕ) → of x ≡ refused k → n ≡ k → efAnswer (refused n) ≡ efAnswer (of v)
+  no-case-told k n h en = ap (λ (y : ℕ). efAnswer (refused y)) en ∙ ap efAnswer (sym h) ∙ case-told
 
-  pub no-value-told : (e : Refusal) (k : ℕ) → r ≡ val.Refused e → k ≡ numberOf e → refused k ≡ a
-  no-value-told e k q h = ap refused h ∙ sym (ap ofValue q) ∙ er
+pub truth-told : (t : Truth) (b c : Bool) → t ≡ truth.Is b → b ≡ c → efAnswer (value (flag c)) ≡ efAnswer (ofTruth t)
+truth-told t b c e h = case-told ofTruth t (truth.Is c) (e ∙ ap truth.Is h)
+
+-- ---- a call that alters words
+
+pub outcome-told : (o m : Outcome) → o ≡ m → (efAnswer (o .answer) ≡ efAnswer (m .answer)) × (o .words ≡ m .words)
+outcome-told o m e = (ap (λ (x : Outcome). efAnswer (x .answer)) e, ap (λ (x : Outcome). x .words) e)

@@ -1,17 +1,23 @@
-// The record for C and Rust: a static library, thin over `elias_fano`. ffi/elias_fano.h says it in C, with who owns which words.
+// The record for C and Rust: a static library, thin over `elias_fano`, `elias_fano_queries` and `elias_fano_walk`. ffi/elias_fano.h says it
+// in C, with who owns which words.
+//
+// Here a record is written and opened; `ask` has one question a call, `many` as many as an array holds.
 ghost use mathlib.Core.Path.{_≡_};
 ghost use Rattle.elias_fano.specs.Accept.{openOf};
-ghost use Rattle.elias_fano.specs.Ask.{Select, query};
 ghost use Rattle.elias_fano.specs.Made.{made};
 ghost use Rattle.elias_fano.specs.Steps.{newOf, pushOf, buildOf};
 ghost use Rattle.ffi.specs.Answers.{ofBuilder, ofRefusal, efAnswer, efOpened, Told};
+
+mod ask;
+mod many;
+mod tell;
+
 use elias_fano::builder;
 use elias_fano::builder::Builder;
 use elias_fano::builder::Built;
 use elias_fano::builder::Pushed;
 use elias_fano::image;
 use elias_fano::image::Opened;
-use elias_fano::image::Value;
 use errors::number;
 
 // How far a record is written.
@@ -130,26 +136,5 @@ pub extern "C" fn ef_open(words: &[u64]) -> u64
     match image::open(words) {
         Opened::Image(_p) => 0,
         Opened::Refused(e) => number(e),
-    }
-}
-
-// The value with the number k.
-#[no_mangle]
-pub extern "C" fn ef_select(words: &[u64], k: usize) -> EfAnswer
-    ensures { λ r. ⌜ r ≡ efAnswer (query (now (words .entry)) (Select k)) ⌝ }
-{
-    match image::select(words, k) {
-        Value::Is(t) => EfAnswer {
-            kind: EF_VALUE,
-            value: t,
-        },
-        Value::Nothing => EfAnswer {
-            kind: EF_NONE,
-            value: 0,
-        },
-        Value::Refused(e) => EfAnswer {
-            kind: EF_REFUSED,
-            value: number(e),
-        },
     }
 }

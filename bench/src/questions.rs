@@ -1,0 +1,179 @@
+//! The rows of the questions: one image, opened once, is asked many times at random, or walked over from the first time on.
+
+use std::hint::black_box;
+
+use sucds::mii_sequences::EliasFano;
+
+use crate::port::{self, Answer, Many};
+use crate::record::{at_a_million, name};
+use crate::table::{is_asked, Items, Table};
+use crate::{rust, Random};
+
+/// How often an image is asked.
+const QUESTIONS: usize = 1_000_000;
+
+pub const ROWS: [&str; 9] = [
+    "select",
+    "delta",
+    "rank",
+    "predecessor",
+    "successor",
+    "search, hit",
+    "search, miss",
+    "walk",
+    "read_from",
+];
+
+/// What is asked: numbers, values, values that are there and values that are not.
+pub struct Questions {
+    ks: Vec<u64>,
+    values: Vec<u64>,
+    hits: Vec<u64>,
+    misses: Vec<u64>,
+}
+
+impl Questions {
+    pub fn new(times: &[u64], universe: u64, random: &mut Random) -> Self {
+        let (n, u) = (times.len(), universe as usize);
+        let mut some = |below| -> Vec<u64> {
+            let places = random.places(QUESTIONS, below);
+            places.into_iter().map(|p| p as u64).collect()
+        };
+        let (ks, values, places) = (some(n), some(u), some(n));
+        let hits = places.iter().map(|&k| times[k as usize]).collect();
+        // a value that is there is moved on to one that is not
+        let miss = |&v: &u64| (v..).find(|v| times.binary_search(v).is_err());
+        let misses = values.iter().filter_map(miss).collect();
+        Self {
+            ks,
+            values,
+            hits,
+            misses,
+        }
+    }
+
+    pub fn rows(&self, table: &mut Table, n: usize, ef: &EliasFano, image: &[u64]) {
+        let row = |row, target: Option<f64>| Row {
+            what: name(row, n),
+            target: target.and_then(|target| at_a_million(n, target)),
+            image,
+        };
+        let number = |k: Option<usize>| k.map(|k| k as u64);
+        let [select, delta, rank, predecessor, successor, hit, miss, walk, read] = ROWS;
+        row(select, Some(1.0)).asked(table, &self.ks, port::SELECTS, |k| ef.select(k as usize));
+        row(delta, Some(0.8)).asked(table, &self.ks, port::DELTAS, |k| ef.delta(k as usize));
+        row(rank, Some(0.9)).asked(table, &self.values, port::RANKS, |v| number(ef.rank(v)));
+        let before = |v| ef.predecessor(v);
+        row(predecessor, Some(0.6)).asked(table, &self.values, port::PREDECESSORS, before);
+        let after = |v| ef.successor(v);
+        row(successor, Some(0.6)).asked(table, &self.values, port::SUCCESSORS, after);
+        let search = |v| number(ef.binsearch(v));
+        row(hit, Some(0.9)).asked(table, &self.hits, port::BINSEARCHES, search);
+        row(miss, Some(0.9)).asked(table, &self.misses, port::BINSEARCHES, search);
+        row(walk, Some(1.0)).walked(table, n, ef);
+        row(read, None).read(table, n, ef);
+    }
+}
+
+struct Row<'a> {
+    what: String,
+    target: Option<f64>,
+    image: &'a [u64],
+}
+
+impl Row<'_> {
+    /// Each side writes its answers to words that it is lent; the port opens the image first, which is taken off.
+    fn asked(&self, table: &mut Table, args: &[u64], many: Many, one: impl Fn(u64) -> Option<u64>) {
+        self.asked_as(table, args.len().into(), args, many, one);
+    }
+
+    /// The Rust is asked only the first questions where it takes too long.
+    fn asked_as(
+        &self,
+        table: &mut Table,
+        items: Items,
+        args: &[u64],
+        many: Many,
+        one: impl Fn(u64) -> Option<u64>,
+    ) {
+        if !is_asked(&self.what) {
+            return;
+        }
+        let few = &args[..items.rust];
+        let mut theirs = vec![None; items.rust];
+        let mut ours = vec![Answer::default(); args.len()];
+        rust::record_ask(&one, few, &mut theirs);
+        port::record_ask(many, self.image, args, &mut ours);
+        let same = ours.iter().zip(&theirs).all(|(a, b)| a.get() == *b);
+        assert!(same, "{}", self.what);
+        table.row_after(
+            &self.what,
+            items,
+            self.target,
+            || rust::record_ask(&one, black_box(few), &mut theirs),
+            || port::record_ask(many, black_box(self.image), args, &mut ours),
+            || port::record_ask(many, black_box(self.image), &[], &mut []),
+        );
+    }
+
+    fn walked(&self, table: &mut Table, n: usize, ef: &EliasFano) {
+        let rust = || rust::record_walk(black_box(ef), n);
+        let port = || port::record_walk(black_box(self.image), n);
+        assert_eq!(rust(), port(), "{}", self.what);
+        let before = || port::record_walk(black_box(self.image), 0);
+        table.row_after(&self.what, n, self.target, rust, port, before);
+    }
+
+    fn read(&self, table: &mut Table, n: usize, ef: &EliasFano) {
+        if !is_asked(&self.what) {
+            return;
+        }
+        let (mut theirs, mut ours) = (vec![0; n], vec![0; n]);
+        rust::record_read(ef, &mut theirs);
+        port::record_read(self.image, &mut ours);
+        assert_eq!(theirs, ours, "{}", self.what);
+        table.row_after(
+            &self.what,
+            n,
+            self.target,
+            || rust::record_read(black_box(ef), &mut theirs),
+            || port::record_read(black_box(self.image), &mut ours),
+            || port::record_read(black_box(self.image), &mut []),
+        );
+    }
+}
+
+/// A record of a million equal times, asked for the rank of that time: the Rust passes over all of them.
+pub struct Equal {
+    ef: EliasFano,
+    image: Vec<u64>,
+}
+
+const EQUAL: &str = "record rank, 1000000 equal times";
+
+impl Equal {
+    /// None where the row is not asked for.
+    pub fn new() -> Option<Self> {
+        if !is_asked(EQUAL) {
+            return None;
+        }
+        let times = vec![500_000_000; 1_000_000];
+        let ef = rust::record_build(rust::record_push(1_000_000_000, &times), true);
+        let image = rust::image_words(&ef, times.len());
+        Some(Self { ef, image })
+    }
+
+    pub fn row(&self, table: &mut Table) {
+        let row = Row {
+            what: EQUAL.into(),
+            target: Some(0.001),
+            image: &self.image,
+        };
+        let items = Items {
+            rust: 10,
+            port: 100_000,
+        };
+        let rank = |v| self.ef.rank(v).map(|k| k as u64);
+        row.asked_as(table, items, &vec![500_000_000; 100_000], port::RANKS, rank);
+    }
+}

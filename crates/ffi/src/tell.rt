@@ -1,0 +1,67 @@
+// Each answer as C has it: its kind, and the value or the refusal's number.
+ghost use mathlib.Core.Path.{_≡_};
+ghost use Rattle.elias_fano.specs.Accept.{ofNumber, ofValue};
+ghost use Rattle.elias_fano_queries.specs.Truth.{ofTruth};
+ghost use Rattle.ffi.specs.Answers.{efAnswer};
+use crate::EF_NONE;
+use crate::EF_REFUSED;
+use crate::EF_VALUE;
+use crate::EfAnswer;
+use elias_fano::image::Number;
+use elias_fano::image::Value;
+use elias_fano_queries::header::Truth;
+use errors::number;
+
+pub fn tell_value(v: Value) -> EfAnswer
+    ensures { λ r. ⌜ r ≡ efAnswer (ofValue v) ⌝ }
+{
+    match v {
+        Value::Is(t) => EfAnswer {
+            kind: EF_VALUE,
+            value: t,
+        },
+        Value::Nothing => EfAnswer {
+            kind: EF_NONE,
+            value: 0,
+        },
+        Value::Refused(e) => EfAnswer {
+            kind: EF_REFUSED,
+            value: number(e),
+        },
+    }
+}
+
+pub fn tell_number(n: Number) -> EfAnswer
+    ensures { λ r. ⌜ r ≡ efAnswer (ofNumber n) ⌝ }
+{
+    match n {
+        Number::Is(k) => EfAnswer {
+            kind: EF_VALUE,
+            value: k as u64,
+        },
+        Number::Nothing => EfAnswer {
+            kind: EF_NONE,
+            value: 0,
+        },
+        Number::Refused(e) => EfAnswer {
+            kind: EF_REFUSED,
+            value: number(e),
+        },
+    }
+}
+
+// A yes is 1 and a no is 0.
+pub fn tell_truth(t: Truth) -> EfAnswer
+    ensures { λ r. ⌜ r ≡ efAnswer (ofTruth t) ⌝ }
+{
+    match t {
+        Truth::Is(yes) => EfAnswer {
+            kind: EF_VALUE,
+            value: if yes { 1 } else { 0 },
+        },
+        Truth::Refused(e) => EfAnswer {
+            kind: EF_REFUSED,
+            value: number(e),
+        },
+    }
+}
