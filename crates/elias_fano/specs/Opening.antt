@@ -72,6 +72,10 @@ pub record Indexes (i : List ℕ) : Type 0 where
   pub ones : take (zerosIn i - onesIn i) (drop (onesIn i) i) ≡ indexWords (positions true (highIn i) (highOf i))
   pub zeros : drop (zerosIn i) i ≡ cond (ranked i) (indexWords (positions false (highIn i) (highOf i))) []
 
+-- the high words, by the parts
+abbrev pub highPart : List ℕ → Parts → List ℕ
+highPart i p = take (p .«low_at» - 6) (drop 6 i)
+
 -- an accepted image with its parts, and the table of select
 pub record Open (i : List ℕ) (p : Parts) (table : List ℕ) : Type 0 where
   pub ok : accepted i ≡ true
@@ -83,4 +87,4 @@ pub record OneAt (i : List ℕ) (p : Parts) (k x : ℕ) : Type 0 where
   pub ok : accepted i ≡ true
   pub parts : p ≡ partsOf i
   pub below : k < p .«num_pushed»
-  pub place : select (bitOver true (take (p .«low_at» - 6) (drop 6 i))) (p .«high_len») k ≡ At x
+  pub place : select (bitOver true (highPart i p)) (p .«high_len») k ≡ At x

@@ -16,21 +16,21 @@ pub enum Filed {
 }
 
 // What a push by value leaves.
-pub struct Left {
+pub struct AfterPush {
     pub builder: Builder,
     pub answer: Filed,
 }
 
 // The builder that stands after an answer: the one handed in, where the push is refused.
-fn told(b: Builder, p: Pushed) -> Left
+fn told(b: Builder, p: Pushed) -> AfterPush
     ensures { λ r. ⌜ ((w : List ℕ) → made (ofFiled (r .answer)) (r .builder) w ≡ ofPushed b p w) ⌝ }
 {
     match p {
-        Pushed::Accepted(next) => Left {
+        Pushed::Accepted(next) => AfterPush {
             builder: next,
             answer: Filed::Done,
         },
-        Pushed::Refused(e) => Left {
+        Pushed::Refused(e) => AfterPush {
             builder: b,
             answer: Filed::Refused(e),
         },
@@ -38,7 +38,7 @@ fn told(b: Builder, p: Pushed) -> Left
 }
 
 // A push by value: the builder after it, and its answer.
-pub fn push_value(b: Builder, val: u64, buffer: &mut [u64]) -> Left
+pub fn push_value(b: Builder, val: u64, buffer: &mut [u64]) -> AfterPush
     ensures { λ r. ⌜ made (ofFiled (r .answer)) (r .builder) (now (buffer .exit)) ≡ pushOf b val (now (buffer .entry)) ⌝ }
 {
     let p = elias_fano::builder::push(b, val, &mut *buffer);

@@ -17,50 +17,50 @@ use elias_fano_walk::walk::begin;
 use errors::Refusal;
 
 // A place in an image.
-pub struct Cursor {
+pub struct IterPlace {
     pub parts: Parts,
     pub walk: Walk,
 }
 
-pub enum Started {
-    Cursor(Cursor),
+pub enum IterStart {
+    IterPlace(IterPlace),
     Refused(Refusal),
 }
 
 // What a step by value leaves.
 pub struct Moved {
     pub value: Value,
-    pub cursor: Cursor,
+    pub cursor: IterPlace,
 }
 
 pub struct Iter<'a> {
     pub image: &'a [u64],
-    pub cursor: Cursor,
+    pub cursor: IterPlace,
 }
 
 // The place of the value with the number k, in time linear in the words.
-pub fn start(image: &[u64], k: usize) -> Started
+pub fn start(image: &[u64], k: usize) -> IterStart
     ensures { λ r. ⌜ Starts (now (image .entry)) k r ⌝ }
 {
     match open(image) {
         Opened::Image(p) => {
             let table = select_in_byte_table();
             let w = begin(image, p, k, &table);
-            Started::Cursor(Cursor { parts: p, walk: w })
+            IterStart::IterPlace(IterPlace { parts: p, walk: w })
         }
-        Opened::Refused(e) => Started::Refused(e),
+        Opened::Refused(e) => IterStart::Refused(e),
     }
 }
 
 // The iterator at a place of an image.
-pub fn held<'a>(image: &'a [u64], c: Cursor) -> Iter<'a>
+pub fn held<'a>(image: &'a [u64], c: IterPlace) -> Iter<'a>
     ensures { λ r. ⌜ r ≡ record { image = image .entry; cursor = c } ⌝ }
 {
     Iter { image, cursor: c }
 }
 
 // A step by value: the next value, or none, and the place after it.
-pub fn step(image: &[u64], c: Cursor) -> Moved
+pub fn step(image: &[u64], c: IterPlace) -> Moved
     requires { ⌜ Over (now image) c ⌝ }
     ensures { λ r. ⌜ ((ofMoved (r .value) (r .cursor) ≡ valueStepOf (times (now (image .entry))) (c .walk .number)) × Over (now (image .entry)) (r .cursor)) ⌝ }
 {
@@ -72,7 +72,7 @@ pub fn step(image: &[u64], c: Cursor) -> Moved
     let walk = s.walk;
     Moved {
         value,
-        cursor: Cursor { parts: p, walk },
+        cursor: IterPlace { parts: p, walk },
     }
 }
 

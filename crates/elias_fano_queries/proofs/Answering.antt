@@ -18,7 +18,8 @@ use Rattle.elias_fano.specs.declared.image.Parts.{Parts}
 use Rattle.elias_fano.specs.Accept.{universe, times, accepted, partsOf}
 use Rattle.elias_fano.specs.Ask.{Select, Delta, Rank, Predecessor, Successor, Len, IsEmpty, Universe, HasRank, nth, gap, below, greatest, smallest, ask, asked}
 use Rattle.elias_fano.proofs.Selecting as selecting
-use Rattle.elias_fano_queries.specs.Places.{highPart, Behind}
+use Rattle.elias_fano_queries.specs.Demands.{Behind}
+use Rattle.elias_fano.specs.Opening.{highPart}
 use Rattle.elias_fano_queries.proofs.Below as below-law
 use Rattle.elias_fano_queries.proofs.Opened as opened
 

@@ -19,12 +19,12 @@ use Rattle.bit_words.proofs.Last.{not-one}
 use Rattle.bit_words.proofs.Runs.{bitAt-le, bitOver-le, narrow-in}
 use Rattle.elias_fano_words.proofs.Bitwise.{count-suc}
 use Rattle.elias_fano.specs.declared.image.Parts.{Parts}
-use Rattle.elias_fano.specs.Opening.{OneAt}
+use Rattle.elias_fano.specs.Opening.{OneAt, highPart}
 use Rattle.elias_fano.proofs.Accepting.{found}
 use Rattle.elias_fano.proofs.Images as images
 use Rattle.elias_fano.proofs.Selecting as selecting
 use Rattle.elias_fano.proofs.Standing as standing
-use Rattle.elias_fano_queries.specs.Places.{highPart, Behind}
+use Rattle.elias_fano_queries.specs.Demands.{Behind}
 use Rattle.elias_fano_queries.proofs.Opened as opened
 
 -- ---- the last one before a place

@@ -27,12 +27,12 @@ use Rattle.elias_fano_words.specs.Times.{rising}
 use Rattle.elias_fano.specs.declared.image.Parts.{Parts}
 use Rattle.elias_fano.specs.Accept.{universe, declared, ranked, times, accepted, partsBy, partsOf}
 use Rattle.elias_fano.specs.Ask.{below}
-use Rattle.elias_fano.specs.Opening.{OneAt, highIn, highOf}
+use Rattle.elias_fano.specs.Opening.{OneAt, highIn, highOf, highPart}
 use Rattle.elias_fano.proofs.Accepting.{found}
 use Rattle.elias_fano.proofs.Images as images
 use Rattle.elias_fano.proofs.Selecting as selecting
 use Rattle.elias_fano.proofs.Standing as standing
-use Rattle.elias_fano_queries.specs.Places.{highPart, crowded}
+use Rattle.elias_fano_queries.specs.Demands.{crowded}
 use Rattle.elias_fano_queries.proofs.Bucket as bucket
 
 -- the laws at the parts of the image itself

@@ -15,7 +15,8 @@ use Rattle.elias_fano.specs.declared.image.Parts.{Parts}
 use Rattle.elias_fano.specs.Accept.{universe, times}
 use Rattle.elias_fano.specs.Ask.{below}
 use Rattle.elias_fano.proofs.Selecting as selecting
-use Rattle.elias_fano_queries.specs.Places.{highPart, IsOpen}
+use Rattle.elias_fano_queries.specs.Demands.{IsOpen}
+use Rattle.elias_fano.specs.Opening.{highPart}
 use Rattle.elias_fano_queries.proofs.Below as below-law
 use Rattle.elias_fano_queries.proofs.Opened as opened
 use Rattle.elias_fano_queries.proofs.Upper as upper

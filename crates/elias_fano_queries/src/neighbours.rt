@@ -9,7 +9,7 @@ ghost use Rattle.broadword.specs.Places.{SelectInByte};
 ghost use Rattle.elias_fano.specs.Accept.{times, ofValue};
 ghost use Rattle.elias_fano.specs.Ask.{Predecessor, Successor, nth, asked, query};
 ghost use Rattle.elias_fano.specs.Opening.{Open};
-ghost use Rattle.elias_fano_queries.specs.Places.{Behind};
+ghost use Rattle.elias_fano_queries.specs.Demands.{Behind};
 use crate::rank::rank_within;
 use bit_words::find_from;
 use bit_words::last_upto;

@@ -31,13 +31,13 @@ use Rattle.elias_fano_words.specs.Checks.{lowBits}
 use Rattle.elias_fano.specs.declared.image.Parts.{Parts}
 use Rattle.elias_fano.specs.Accept.{times, accepted, partsOf}
 use Rattle.elias_fano.specs.Ask.{nth}
-use Rattle.elias_fano.specs.Opening.{Headed, OneAt}
+use Rattle.elias_fano.specs.Opening.{Headed, OneAt, highPart}
 use Rattle.elias_fano.proofs.Accepting.{found}
 use Rattle.elias_fano.proofs.Images as images
 use Rattle.elias_fano.proofs.Selecting as selecting
 use Rattle.elias_fano.proofs.Standing as standing
 use Rattle.elias_fano_walk.specs.declared.walk.Walk.{Walk}
-use Rattle.elias_fano_walk.specs.Walking.{highPart, Ahead, OneTaken, valueStepOf}
+use Rattle.elias_fano_walk.specs.Walking.{Ahead, OneTaken, valueStepOf}
 
 -- a value is the answer of no case but the first
 other-place : (q : Place) (x : ℕ) → ofPlace q ≡ value x → OneOf (1 ∷ 2 ∷ []) (tagOf the-type q) → ⊥

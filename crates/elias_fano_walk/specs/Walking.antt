@@ -2,9 +2,9 @@
 use mathlib.Core.Path.{_≡_}
 use mathlib.Core.List.{List}
 use mathlib.Core.Bool.{Bool, true, cond}
-use Prim.Native.Nat.{ℕ, zero, suc, _-_, _*_, _<_}
+use Prim.Native.Nat.{ℕ, zero, suc, _*_, _<_}
 use lib.Dec.{ltb}
-use lib.ListN.{length, take, drop}
+use lib.ListN.{length}
 use Rattle.errors.specs.Answer.{Answer}
 use Rattle.broadword.specs.Bits.{count}
 use Rattle.broadword.specs.Places.{Debruijn64}
@@ -13,7 +13,7 @@ use Rattle.bit_vectors.specs.Walk.{Walking}
 use Rattle.elias_fano.specs.declared.image.Parts.{Parts}
 use Rattle.elias_fano.specs.Accept.{accepted, partsOf, ofValue}
 use Rattle.elias_fano.specs.Ask.{Next, nth, ask}
-use Rattle.elias_fano.specs.Opening.{OneAt}
+use Rattle.elias_fano.specs.Opening.{OneAt, highPart}
 use Rattle.elias_fano_walk.specs.declared.walk.Walk.{Walk}
 use Rattle.elias_fano_walk.specs.declared.walk.One.{One}
 use Rattle.elias_fano_walk.specs.declared.walk.ValueStep.{ValueStep}
@@ -23,10 +23,6 @@ pub record Walkable (i : List ℕ) (p : Parts) (places : List ℕ) : Type 0 wher
   pub ok : accepted i ≡ true
   pub parts : p ≡ partsOf i
   pub rule : Debruijn64 places
-
--- the high words
-abbrev pub highPart : List ℕ → Parts → List ℕ
-highPart i p = take (p .«low_at» - 6) (drop 6 i)
 
 -- the walk over the ones has taken those of the values before the next
 pub record Ahead (i : List ℕ) (p : Parts) (w : Walk) : Type 0 where

@@ -5,7 +5,7 @@ ghost use Prim.Native.Nat.{_+_, _*_, _≤_, _<_, min};
 ghost use lib.ListN.{length, take as takeList, drop};
 ghost use Rattle.errors.specs.Answer.{value, leaves};
 ghost use Rattle.elias_fano.specs.Ask.{Select, Delta, Rank, Predecessor, Successor, Binsearch, query};
-ghost use Rattle.elias_fano_queries.specs.Places.{IsOpen};
+ghost use Rattle.elias_fano_queries.specs.Demands.{IsOpen};
 ghost use Rattle.elias_fano_walk.specs.Searching.{Searchable};
 ghost use Rattle.ffi.specs.Answers.{efAnswer};
 ghost use Rattle.ffi.specs.Many.{questionOf, answered, manyOf};

@@ -14,8 +14,8 @@ use Rattle.prefix_summed_elias_fano.specs.Sums.{sum, sumsImage, sliceTes
 use Rattle.prefix_summed_elias_fano.specs.declared.build.Job.{Job}
 use Rattle.prefix_summed_elias_fano.specs.declared.build.Summed.{Summed}
 use Rattle.prefix_summed_elias_fano.specs.declared.build.Summed.the-variants as summed
-use Rattle.prefix_summed_elias_fano.specs.declared.build.Tested.{Tested}
-use Rattle.prefix_summed_elias_fano.specs.declared.build.Tested.the-variants as tested
+use Rattle.prefix_summed_elias_fano.specs.declared.build.TestedSlice.{TestedSlice}
+use Rattle.prefix_summed_elias_fano.specs.declared.build.TestedSlice.the-variants as tested
 
 -- ---- the tests
 
@@ -37,7 +37,7 @@ module _ (A : List ℕ) (k : ℕ) where
     unfolding sliceTest
     slice-done h = simp (le-ltb 16777216 (length A) (ok .most), lt-leb (2 ^ 64 - 1) (sum A) (ok .small), le-ltb k (length (sumsImage A)) h)
 
-  module _ (r : Tested) (t : Tests A k r) where
+  module _ (r : TestedSlice) (t : Tests A k r) where
     pub passed : (j : Job) → r ≡ tested.Passed j → Ready A k j
     passed j e = subst (Tests A k) e t
 

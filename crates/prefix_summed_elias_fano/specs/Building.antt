@@ -17,8 +17,8 @@ use Rattle.elias_fano.specs.declared.finish.Plan.{Plan}
 use Rattle.elias_fano.specs.Accept.{onesAt}
 use Rattle.prefix_summed_elias_fano.specs.Sums.{sum, sums, sumsImage, sliceTest}
 use Rattle.prefix_summed_elias_fano.specs.declared.build.Job.{Job}
-use Rattle.prefix_summed_elias_fano.specs.declared.build.Tested.{Tested}
-use Rattle.prefix_summed_elias_fano.specs.declared.build.Tested.the-variants as tested
+use Rattle.prefix_summed_elias_fano.specs.declared.build.TestedSlice.{TestedSlice}
+use Rattle.prefix_summed_elias_fano.specs.declared.build.TestedSlice.the-variants as tested
 use Rattle.prefix_summed_elias_fano.specs.declared.build.Summed.{Summed}
 use Rattle.prefix_summed_elias_fano.specs.declared.build.Summed.the-variants as summed
 
@@ -72,6 +72,6 @@ pub record Ready (A : List ℕ) (k : ℕ) (j : Job) : Type 0 where
   pub laid : Laid A (j .plan)
   pub room : length (sumsImage A) ≤ k
 
-abbrev pub Tests : List ℕ → ℕ → Tested → Type 0
+abbrev pub Tests : List ℕ → ℕ → TestedSlice → Type 0
 Tests A k (tested.Passed j) = Ready A k j
 Tests A k (tested.Refused e) = sliceTest A k ≡ refused (numberOf e)

@@ -35,20 +35,20 @@ use errors::Refusal;
 const LARGEST: u64 = u64::MAX - 1;
 
 // The sum of the items, if 1 more is still a u64.
-pub enum Summed {
+enum Summed {
     Is(u64),
     TooLarge,
 }
 
 // What nothing stands against: the sum, the sizes of the record, and the plan of the image.
-pub struct Job {
-    pub sum: u64,
-    pub sizes: Sizes,
-    pub plan: Plan,
+struct Job {
+    sum: u64,
+    sizes: Sizes,
+    plan: Plan,
 }
 
 // What the tests find.
-pub enum Tested {
+enum TestedSlice {
     Passed(Job),
     Refused(Refusal),
 }
@@ -195,16 +195,16 @@ fn write(items: &[u64], j: Job, buffer: &mut [u64])
 }
 
 // The tests of the room for the image.
-fn test_room(items: &[u64], sum: u64, len: usize) -> Tested
+fn test_room(items: &[u64], sum: u64, len: usize) -> TestedSlice
     requires { ⌜ (Summable (now items) × (sum ≡ sumOf (now items))) ⌝ }
     ensures { λ r. ⌜ Tests (now (items .entry)) len r ⌝ }
 {
     let s = of_record(sum + 1, items.len() as u64);
     let p = plan(items, s);
     if len < p.end {
-        return Tested::Refused(Refusal::ShortBuffer);
+        return TestedSlice::Refused(Refusal::ShortBuffer);
     }
-    Tested::Passed(Job {
+    TestedSlice::Passed(Job {
         sum,
         sizes: s,
         plan: p,
@@ -212,16 +212,16 @@ fn test_room(items: &[u64], sum: u64, len: usize) -> Tested
 }
 
 // The tests of some items, with so many words lent.
-fn test(items: &[u64], len: usize) -> Tested
+fn test(items: &[u64], len: usize) -> TestedSlice
     requires { ⌜ 0 < length (now items) ⌝ }
     ensures { λ r. ⌜ Tests (now (items .entry)) len r ⌝ }
 {
     if items.len() as u64 > MAX_VALS {
-        return Tested::Refused(Refusal::TooMany);
+        return TestedSlice::Refused(Refusal::TooMany);
     }
     match sum_of(items) {
         Summed::Is(sum) => test_room(items, sum, len),
-        Summed::TooLarge => Tested::Refused(Refusal::SumTooLarge),
+        Summed::TooLarge => TestedSlice::Refused(Refusal::SumTooLarge),
     }
 }
 
@@ -234,10 +234,10 @@ pub fn from_slice(items: &[u64], buffer: &mut [u64]) -> Built
         return Built::Words(0);
     }
     match test(items, buffer.len()) {
-        Tested::Passed(j) => {
+        TestedSlice::Passed(j) => {
             write(items, j, &mut *buffer);
             Built::Words(j.plan.end)
         }
-        Tested::Refused(e) => Built::Refused(e),
+        TestedSlice::Refused(e) => Built::Refused(e),
     }
 }

@@ -48,11 +48,11 @@ use Rattle.elias_fano.specs.Steps.{pushOf}
 use Rattle.elias_fano.proofs.builder.Builder as T
 use Rattle.elias_fano.proofs.builder.Builder.Laws as T′
 use Rattle.elias_fano_forms.specs.Filing.{ofFiled}
-use Rattle.elias_fano_forms.specs.declared.builder.Left.{Left}
+use Rattle.elias_fano_forms.specs.declared.builder.AfterPush.{AfterPush}
 use Rattle.elias_fano_forms.proofs.builder.Filed as F
 use Rattle.elias_fano_forms.proofs.builder.Filed.Laws as F′
-use Rattle.elias_fano_forms.proofs.builder.Left as P
-use Rattle.elias_fano_forms.proofs.builder.Left.Laws as P′
+use Rattle.elias_fano_forms.proofs.builder.AfterPush as P
+use Rattle.elias_fano_forms.proofs.builder.AfterPush.Laws as P′
 use Rattle.elias_fano_forms.proofs.builder.push_value as by-value
 use Rattle.elias_fano_forms.proofs.builder.push_value.Symbol as by-value-def
 use Rattle.elias_fano_forms.proofs.builder.push_value.Symbol.{name as #forms·push-value}
@@ -101,10 +101,10 @@ module _ {M : Type 1} (𝓤 : URA M) (H : Heap 𝓤) (A : Atoms 𝓤) (W : Given
       nothing ! $ move ! (3 ∷ 0 ∷ []) $ fjoin ! $ owned ! u64 (Is u64) (uint-makes 𝓤 H A W w64) t _ (refl, t-fits) $ fjoin ! $ move ! (2 ∷ 0 ∷ []) $ fjoin ! $ move ! (1 ∷ 0 ∷ []) $ join ! $ frame ! $ done !
 
   -- what `push_value` says of its result and of the last list
-  abbrev Said : Left → List ℕ → Type 0
+  abbrev Said : AfterPush → List ℕ → Type 0
   Said r zs = made (ofFiled (r .answer)) (r .builder) zs ≡ pushOf h t ys
 
-  exits : (r : Left) (zs : List ℕ) → Said r zs → length zs ≡ length ys → Is F.the-row (r .answer) (EL.val F.the-type F′.the-laws (r .answer) ∷ [])
+  exits : (r : AfterPush) (zs : List ℕ) → Said r zs → length zs ≡ length ys → Is F.the-row (r .answer) (EL.val F.the-type F′.the-laws (r .answer) ∷ [])
       → ent 𝓤 (⋆ 𝓤 H A (‵ (fobs γ (R .coded .code (r .builder))) ∷ ‵ (fbor κ (Body (mem R) b o γ)) ∷ ‵ (flft κ q) ∷ (‵ (flft κ′ q′) ⊛ ‵ ftrue) ∷ ‵ (finally u64 γ′ zs) ∷ [])) (Post (EL.val F.the-type F′.the-laws (r .answer)))
   exits r zs e l g =
       qed W (‵ (fobs γ (R .coded .code (r .builder))) ∷ ‵ (fbor κ (Body (mem R) b o γ)) ∷ ‵ (flft κ q) ∷ (‵ (flft κ′ q′) ⊛ ‵ ftrue) ∷ ‵ (finally u64 γ′ zs) ∷ []) ∵
@@ -112,11 +112,11 @@ module _ {M : Type 1} (𝓤 : URA M) (H : Heap 𝓤) (A : Atoms 𝓤) (W : Given
       move ! (2 ∷ 3 ∷ []) $ join ! $ frame ! $ nothing ! $ move ! (3 ∷ 0 ∷ []) $ fjoin ! $ owned ! u64 (Is u64) (uint-makes 𝓤 H A W w64) t _ (refl, t-fits) $ fjoin ! $ move ! (1 ∷ 2 ∷ 0 ∷ []) $
       feqI ! (List Val) (vptr b o ∷ []) (vptr b o ∷ []) refl $ fjoin3 ! $ fjoin ! $ owned ! F.the-row (Is F.the-row) (EL.makes F.the-type F′.the-plain 𝓤 H A) (r .answer) _ g $ move ! (1 ∷ 0 ∷ []) $ done !
 
-  -- what whoever holds a `Left` knows of its fields
-  is-builder : (r : Left) (w : Val) → Is P.the-row r (w ∷ []) → Is R (r .builder) (T′.lowered (r .builder) ∷ [])
+  -- what whoever holds a `AfterPush` knows of its fields
+  is-builder : (r : AfterPush) (w : Val) → Is P.the-row r (w ∷ []) → Is R (r .builder) (T′.lowered (r .builder) ∷ [])
   is-builder r w is = LL.owed P.the-type P′.the-laws r _ is .0
 
-  is-answer : (r : Left) (w : Val) → Is P.the-row r (w ∷ []) → Is F.the-row (r .answer) (EL.val F.the-type F′.the-laws (r .answer) ∷ [])
+  is-answer : (r : AfterPush) (w : Val) → Is P.the-row r (w ∷ []) → Is F.the-row (r .answer) (EL.val F.the-type F′.the-laws (r .answer) ∷ [])
   is-answer r w is = LL.owed P.the-type P′.the-laws r _ is .1 .0
 
   module _ (C : Calls 𝓤 H) (Λ : Loops 𝓤 H) (fm : FmC 𝓤 H (W .laws) C) (known : Triple 𝓤 (C #forms·push-value) (ByValue 𝓤 H A at-mem run)) where
@@ -137,7 +137,7 @@ module _ {M : Type 1} (𝓤 : URA M) (H : Heap 𝓤) (A : Atoms 𝓤) (W : Given
         -- `push_value`
         move ! (6 ∷ []) $ fsplit ! $ drop ! $ fsplit ! $ move ! (7 ∷ 3 ∷ 0 ∷ []) $ use3 W (raw (ByValue 𝓤 H A at-mem run .pre to-value)) goes $
         calls-at ! fm (ByValue 𝓤 H A at-mem run) known to-value (and-then ! (load ! (from ! (stop !)) (look ! 10 refl)) (and-then ! (load ! (from ! (stop !)) (look ! 16 refl)) (and-then ! (load ! (from ! (stop !)) (look ! 6 refl)) (no-more !)))) (λ w.
-        use1 W (later (some (λ (r : Left). ((‵ (flft κ′ q′) ⊛ ‵ ftrue) ⊛ ‵ (P.the-row .own r (w ∷ []))) ⊛ raw (ensured 𝓤 H A by-value.ended (by-value.clauses 𝓤 H A at-mem run) (κ′, tt) (h, (t, (x, tt))) tt r)))) (id⊢ 𝓤 _) $ await ! tt $ pick ! (λ r.
+        use1 W (later (some (λ (r : AfterPush). ((‵ (flft κ′ q′) ⊛ ‵ ftrue) ⊛ ‵ (P.the-row .own r (w ∷ []))) ⊛ raw (ensured 𝓤 H A by-value.ended (by-value.clauses 𝓤 H A at-mem run) (κ′, tt) (h, (t, (x, tt))) tt r)))) (id⊢ 𝓤 _) $ await ! tt $ pick ! (λ r.
         split ! $ move ! (1 ∷ []) $ use1 W (some (λ (zs : Unit {0} × (Unit {0} × (List ℕ × Unit {0}))). ‵ (lasts by-value.ended (κ′, tt) (h, (t, (x, tt))) zs) ⊛ raw (fact 𝓤 (Said r (zs .1 .1 .0))))) (id⊢ 𝓤 _) $ pick ! (λ zs.
         split ! $ move ! (1 ∷ []) $ heard ! (Said r (zs .1 .1 .0)) (λ e. fsplit ! $ drop ! $ fsplit ! $ drop ! $ fsplit ! $ fsplit ! $ move ! (1 ∷ []) $ feqL ! (λ l.
         -- [the last list; true; the token and the result; true; the cell; the open borrow; obs; auth; _7; …]

@@ -33,10 +33,10 @@ use denote.Triple.Spec.{Meets, tripleOf}
 use denote.Triple.Table.{entered}
 use denote.Triple.Walked.{says, Stays, stay-none, stay-none-slice, walkOf, goes-none, goes-none-slice, Walks, ends-at, walked, walk-meets}
 use denote.Exit.{yes}
-use Rattle.elias_fano_forms.specs.declared.iter.Cursor.{Cursor}
+use Rattle.elias_fano_forms.specs.declared.iter.IterPlace.{IterPlace}
 use Rattle.elias_fano_forms.specs.declared.iter.Iter.{Iter}
-use Rattle.elias_fano_forms.proofs.iter.Cursor as K
-use Rattle.elias_fano_forms.proofs.iter.Cursor.Laws as K′
+use Rattle.elias_fano_forms.proofs.iter.IterPlace as K
+use Rattle.elias_fano_forms.proofs.iter.IterPlace.Laws as K′
 use Rattle.elias_fano_forms.proofs.iter.Iter as T
 use Rattle.elias_fano_forms.proofs.iter.Iter.Laws as T′
 use Rattle.elias_fano_forms.proofs.iter.held.Key.{name as #forms·held}
@@ -47,7 +47,7 @@ use Rattle.elias_fano_forms.proofs.iter.held.Code as code
 abbrev stayed : Stays (held.ended .signature .params) (held.ended .kept)
 stayed = (stay-none-slice (0 ∷ []) tt (plain (λ _. u64)) yes, (stay-none (λ _. K.the-row) yes, tt))
 
-module _ {M : Type 1} (𝓤 : URA M) (H : Heap 𝓤) (A : Atoms 𝓤) (W : Given 𝓤 H A) (mem : Memory → SProp 𝓤) (run : Routine → Fun 𝓤) (κ : Lft) (q : Share) (s : RefT (List ℕ)) (c : Cursor) where
+module _ {M : Type 1} (𝓤 : URA M) (H : Heap 𝓤) (A : Atoms 𝓤) (W : Given 𝓤 H A) (mem : Memory → SProp 𝓤) (run : Routine → Fun 𝓤) (κ : Lft) (q : Share) (s : RefT (List ℕ)) (c : IterPlace) where
   abbrev α : NamedLft
   α = namedLft 1 0 tt (κ, tt)
 

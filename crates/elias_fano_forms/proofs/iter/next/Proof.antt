@@ -48,11 +48,11 @@ use Rattle.elias_fano.proofs.image.Value as F
 use Rattle.elias_fano.proofs.image.Value.Laws as F′
 use Rattle.elias_fano_walk.specs.Walking.{valueStepOf}
 use Rattle.elias_fano_forms.specs.Iterating.{Over, ofMoved}
-use Rattle.elias_fano_forms.specs.declared.iter.Cursor.{Cursor}
+use Rattle.elias_fano_forms.specs.declared.iter.IterPlace.{IterPlace}
 use Rattle.elias_fano_forms.specs.declared.iter.Iter.{Iter}
 use Rattle.elias_fano_forms.specs.declared.iter.Moved.{Moved}
-use Rattle.elias_fano_forms.proofs.iter.Cursor as K
-use Rattle.elias_fano_forms.proofs.iter.Cursor.Laws as K′
+use Rattle.elias_fano_forms.proofs.iter.IterPlace as K
+use Rattle.elias_fano_forms.proofs.iter.IterPlace.Laws as K′
 use Rattle.elias_fano_forms.proofs.iter.Iter as T
 use Rattle.elias_fano_forms.proofs.iter.Iter.Laws as T′
 use Rattle.elias_fano_forms.proofs.iter.Moved as S
@@ -100,7 +100,7 @@ module _ {M : Type 1} (𝓤 : URA M) (H : Heap 𝓤) (A : Atoms 𝓤) (W : Given
   abbrev Own : Fml
   Own = R .own h (T′.lowered h ∷ [])
 
-  abbrev to-next : Cursor → Iter
+  abbrev to-next : IterPlace → Iter
   to-next c = record { image = h .image; cursor = c }
 
   abbrev Arg : Type 0
@@ -132,7 +132,7 @@ module _ {M : Type 1} (𝓤 : URA M) (H : Heap 𝓤) (A : Atoms 𝓤) (W : Given
   said r = exE 𝓤 _ (λ ws. snd∗ 𝓤 (sem 𝓤 H A (lasts step.ended (κ′, tt) (h .image, (h .cursor, tt)) ws)) (fact 𝓤 (Said r)))
 
   -- what image owns is kept, and the cursor's facts are made anew
-  again : (c : Cursor) → Is K.the-row c (K′.lowered c ∷ []) → ent 𝓤 (sem 𝓤 H A Own) (sem 𝓤 H A (R .own (to-next c) (T′.lowered (to-next c) ∷ [])))
+  again : (c : IterPlace) → Is K.the-row c (K′.lowered c ∷ []) → ent 𝓤 (sem 𝓤 H A Own) (sem 𝓤 H A (R .own (to-next c) (T′.lowered (to-next c) ∷ [])))
   again c ok = qed W (‵ Own ∷ []) ∵ owned ! K.the-row (Is K.the-row) (LL.makes K.the-type K′.the-plain 𝓤 H A) c _ ok $ move ! (1 ∷ 0 ∷ []) $ by ! (own-put 𝓤 H A W D L 1 vd c (T′.lowered h))
 
   -- what whoever holds a `Moved` knows of its fields

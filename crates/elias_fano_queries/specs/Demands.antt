@@ -4,17 +4,12 @@ use mathlib.Core.List.{List}
 use mathlib.Core.Bool.{Bool, true, _&&_}
 use Prim.Native.Nat.{ℕ, _+_, _-_, _%_, _^_, _≤_}
 use lib.Dec.{eqb, ltb}
-use lib.ListN.{take, drop}
 use Rattle.broadword.specs.Bits.{count}
 use Rattle.broadword.specs.Fields.{word}
 use Rattle.bit_words.specs.Vector.{bitAt}
 use Rattle.elias_fano.specs.declared.image.Parts.{Parts}
 use Rattle.elias_fano.specs.Accept.{accepted, partsOf}
-use Rattle.elias_fano.specs.Opening.{Open}
-
--- the high words
-abbrev pub highPart : List ℕ → Parts → List ℕ
-highPart i p = take (p .«low_at» - 6) (drop 6 i)
+use Rattle.elias_fano.specs.Opening.{Open, highPart}
 
 -- an accepted image with its parts
 pub record IsOpen (i : List ℕ) (p : Parts) : Type 0 where
