@@ -13,7 +13,7 @@ use Rattle.elias_fano.specs.Ask.{Select, Delta, Rank, Predecessor, Successor, B
 use Rattle.console_text.specs.declared.line.Arguments.{Arguments}
 use Rattle.console_text.specs.Gathered.{Gathered, withSays}
 use Rattle.console_text.specs.Says.{answers, bad, unknown}
-use Rattle.console_questions.specs.Questions.{openSays, headerOf, questionOf, oneOf, askOf, takesOf, commandOf, walkOf, readOf, fitsListOf, listedOf}
+use Rattle.console_questions.specs.Questions.{openSays, headerOf, numberedOf, oneOf, askOf, takesOf, commandOf, walkOf, readOf, fitsListOf, listedOf}
 
 module _ (k : ℕ) (i : List ℕ) where
   pub header-open : k ≡ 0 → headerOf k i ≡ answers (openSays (openOf i))
@@ -33,28 +33,28 @@ module _ (k : ℕ) (i : List ℕ) where
   header-rank e f g = simp (ne-eqb k 0 e, ne-eqb k 1 f, ne-eqb k 2 g)
 
 module _ (k a : ℕ) where
-  pub question-select : k ≡ 4 → questionOf k a ≡ Select a
-  unfolding questionOf
+  pub question-select : k ≡ 4 → numberedOf k a ≡ Select a
+  unfolding numberedOf
   question-select e = rw e
 
-  pub question-delta : k ≡ 5 → questionOf k a ≡ Delta a
-  unfolding questionOf
+  pub question-delta : k ≡ 5 → numberedOf k a ≡ Delta a
+  unfolding numberedOf
   question-delta e = rw e
 
-  pub question-rank : k ≡ 6 → questionOf k a ≡ Rank a
-  unfolding questionOf
+  pub question-rank : k ≡ 6 → numberedOf k a ≡ Rank a
+  unfolding numberedOf
   question-rank e = rw e
 
-  pub question-predecessor : k ≡ 7 → questionOf k a ≡ Predecessor a
-  unfolding questionOf
+  pub question-predecessor : k ≡ 7 → numberedOf k a ≡ Predecessor a
+  unfolding numberedOf
   question-predecessor e = rw e
 
-  pub question-successor : k ≡ 8 → questionOf k a ≡ Successor a
-  unfolding questionOf
+  pub question-successor : k ≡ 8 → numberedOf k a ≡ Successor a
+  unfolding numberedOf
   question-successor e = rw e
 
-  pub question-search : (k ≡ 4 → ⊥) → (k ≡ 5 → ⊥) → (k ≡ 6 → ⊥) → (k ≡ 7 → ⊥) → (k ≡ 8 → ⊥) → questionOf k a ≡ Binsearch a
-  unfolding questionOf
+  pub question-search : (k ≡ 4 → ⊥) → (k ≡ 5 → ⊥) → (k ≡ 6 → ⊥) → (k ≡ 7 → ⊥) → (k ≡ 8 → ⊥) → numberedOf k a ≡ Binsearch a
+  unfolding numberedOf
   question-search e f g h j = simp (ne-eqb k 4 e, ne-eqb k 5 f, ne-eqb k 6 g, ne-eqb k 7 h, ne-eqb k 8 j)
 
 module _ (k : ℕ) where

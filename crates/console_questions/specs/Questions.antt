@@ -28,8 +28,8 @@ headerOf k i =
     (cond (eqb k 2) (answers (query i Universe)) (answers (query i HasRank))))
 
 -- `select K` 4, `delta K` 5, `rank T` 6, `predecessor V` 7, `successor V` 8, `search V`
-unfoldable pub questionOf : ℕ → ℕ → Question
-questionOf k a =
+unfoldable pub numberedOf : ℕ → ℕ → Question
+numberedOf k a =
     cond (eqb k 4) (Select a)
     (cond (eqb k 5) (Delta a)
     (cond (eqb k 6) (Rank a)
@@ -37,7 +37,7 @@ questionOf k a =
     (cond (eqb k 8) (Successor a) (Binsearch a)))))
 
 abbrev pub oneOf : ℕ → ℕ → List ℕ → Says
-oneOf k a i = answers (query i (questionOf k a))
+oneOf k a i = answers (query i (numberedOf k a))
 
 -- and `search_range A B V`
 unfoldable pub askOf : ℕ → Arguments → List ℕ → Says

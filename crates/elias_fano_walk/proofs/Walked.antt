@@ -37,7 +37,7 @@ use Rattle.elias_fano.proofs.Images as images
 use Rattle.elias_fano.proofs.Selecting as selecting
 use Rattle.elias_fano.proofs.Standing as standing
 use Rattle.elias_fano_walk.specs.declared.walk.Walk.{Walk}
-use Rattle.elias_fano_walk.specs.Walking.{Ahead, OneTaken, valueStepOf}
+use Rattle.elias_fano_walk.specs.Walking.{ValuesAhead, OneTaken, valueStepOf}
 
 -- a value is the answer of no case but the first
 other-place : (q : Place) (x : ℕ) → ofPlace q ≡ value x → OneOf (1 ∷ 2 ∷ []) (tagOf the-type q) → ⊥
@@ -73,9 +73,9 @@ module _ (i : List ℕ) (ok : accepted i ≡ true) (p : Parts) (ep : p ≡ parts
     pub begin-low : k * p .«low_len» < 2 ^ 64
     begin-low = let h = selecting.low-held i ok p ep k (o .below) .few in omega arith
 
-    pub begun : (r : Unary) → r ≡ record { position = x; from = x; buf = getD (highPart i p) (x / 64) 0 / 2 ^ (x % 64) * 2 ^ (x % 64) } → Ahead i p (record { number = k; low = k * p .«low_len»; ones = r })
+    pub begun : (r : Unary) → r ≡ record { position = x; from = x; buf = getD (highPart i p) (x / 64) 0 / 2 ^ (x % 64) * 2 ^ (x % 64) } → ValuesAhead i p (record { number = k; low = k * p .«low_len»; ones = r })
     begun r e =
-        subst⁻¹ (λ (v : Unary). Ahead i p (record { number = k; low = k * p .«low_len»; ones = v })) e (record {
+        subst⁻¹ (λ (v : Unary). ValuesAhead i p (record { number = k; low = k * p .«low_len»; ones = v })) e (record {
           over = steps.walking (highPart i p) (p .«high_len») x high-ok (let s = there .within in omega arith);
           before = there .before;
           low = refl;
@@ -83,7 +83,7 @@ module _ (i : List ℕ) (ok : accepted i ≡ true) (p : Parts) (ep : p ≡ parts
 
   -- ---- a step
 
-  module _ (w : Walk) (a : Ahead i p w) (h : w .number < p .«num_pushed») where
+  module _ (w : Walk) (a : ValuesAhead i p w) (h : w .number < p .«num_pushed») where
     abbrev Next : ℕ → Type 0
     Next x = select ones (p .«high_len») (w .number) ≡ At x
 
@@ -140,7 +140,7 @@ module _ (i : List ℕ) (ok : accepted i ≡ true) (p : Parts) (ep : p ≡ parts
     low-is v e = e ∙ ap (λ (q : ℕ). word 1 (λ j. bitAt lowPart (q + j)) (p .«low_len»)) (a .low)
 
   -- the walk after it
-  pub goes-on : (w : Walk) (a : w .low ≡ w .number * p .«low_len») (x : ℕ) (v : Unary) → OneTaken i p w (record { place = x; rest = v }) → Ahead i p (record { number = w .number + 1; low = w .low + p .«low_len»; ones = v })
+  pub goes-on : (w : Walk) (a : w .low ≡ w .number * p .«low_len») (x : ℕ) (v : Unary) → OneTaken i p w (record { place = x; rest = v }) → ValuesAhead i p (record { number = w .number + 1; low = w .low + p .«low_len»; ones = v })
   goes-on w a x v o = record { over = o .over; before = o .before ∙ sym (add-one (w .number)); low = omega arith }
 
   -- ---- a step, or none

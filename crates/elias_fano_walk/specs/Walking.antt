@@ -25,14 +25,14 @@ pub record Walkable (i : List ℕ) (p : Parts) (places : List ℕ) : Type 0 wher
   pub rule : Debruijn64 places
 
 -- the walk over the ones has taken those of the values before the next
-pub record Ahead (i : List ℕ) (p : Parts) (w : Walk) : Type 0 where
+pub record ValuesAhead (i : List ℕ) (p : Parts) (w : Walk) : Type 0 where
   pub over : Walking (highPart i p) (p .«high_len») (w .ones)
   pub before : count (bitOver true (highPart i p)) (w .ones .from) ≡ w .number
   pub low : w .low ≡ w .number * p .«low_len»
 
 -- a walk as its beginning and each step leave it; at its end nothing is demanded of it
 abbrev pub WalkOver : List ℕ → Parts → Walk → Type 0
-WalkOver i p w = w .number < p .«num_pushed» → Ahead i p w
+WalkOver i p w = w .number < p .«num_pushed» → ValuesAhead i p w
 
 -- the one of the next value is found, and the walk over those after it
 pub record OneTaken (i : List ℕ) (p : Parts) (w : Walk) (r : One) : Type 0 where

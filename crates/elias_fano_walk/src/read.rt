@@ -1,11 +1,12 @@
 // Reading out: the values from a number on, as many as the lent words take (document 01: reading out).
+ghost use mathlib.Core.Bool.{true};
 ghost use mathlib.Core.Path.{_≡_};
 ghost use mathlib.Core.List.{_++_};
 ghost use Prim.Native.Nat.{_-_, _≤_, min};
 ghost use lib.ListN.{length, take as takeList, drop};
 ghost use Rattle.broadword.specs.Places.{Debruijn64};
 ghost use Rattle.errors.specs.Answer.{leaves};
-ghost use Rattle.elias_fano.specs.Accept.{times, ofNumber};
+ghost use Rattle.elias_fano.specs.Accept.{accepted, partsOf, times, ofNumber};
 ghost use Rattle.elias_fano.specs.Ask.{readOut, filled, readFromOf};
 ghost use Rattle.elias_fano.specs.Opening.{Open};
 ghost use Rattle.elias_fano_walk.specs.Walking.{Walkable, WalkOver};
@@ -64,16 +65,22 @@ pub fn read_from_opened(
     count
 }
 
+// The same of an accepted image: the tables are made here.
+fn read_accepted(image: &[u64], p: Parts, k: usize, out: &mut [u64]) -> usize
+    requires { ⌜ ((accepted (now image) ≡ true) × (p ≡ partsOf (now image))) ⌝ }
+    ensures { λ r. ⌜ (r ≡ length (readOut (times (now (image .entry))) k (length (now (out .entry)))) × (now (out .exit) ≡ filled (times (now (image .entry))) k (now (out .entry)))) ⌝ }
+{
+    let table = select_in_byte_table();
+    let places = debruijn64_table();
+    read_from_opened(image, p, k, &mut *out, &table, &places)
+}
+
 // The values from the number k on; how many were written. The later words stay.
 pub fn read_from(image: &[u64], k: usize, out: &mut [u64]) -> Number
     ensures { λ r. ⌜ leaves (ofNumber r) (now (out .exit)) ≡ readFromOf (now (image .entry)) k (now (out .entry)) ⌝ }
 {
     match open(image) {
-        Opened::Image(p) => {
-            let table = select_in_byte_table();
-            let places = debruijn64_table();
-            Number::Is(read_from_opened(image, p, k, &mut *out, &table, &places))
-        }
+        Opened::Image(p) => Number::Is(read_accepted(image, p, k, &mut *out)),
         Opened::Refused(e) => Number::Refused(e),
     }
 }

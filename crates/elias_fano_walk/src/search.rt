@@ -16,7 +16,7 @@ use elias_fano::image::open;
 use elias_fano::image::value_of;
 use errors::Refusal;
 
-pub const LINEAR_SCAN_THRESHOLD: usize = 64;
+const LINEAR_SCAN_THRESHOLD: usize = 64;
 
 // The number of the first value from a on and below b that is val. The values do not fall, so it ends at the first that is not below val.
 fn scan_range(

@@ -21,7 +21,7 @@ use Rattle.elias_fano.proofs.Answers as answers
 use Rattle.ffi.specs.declared.EfAnswer.{EfAnswer}
 use Rattle.ffi.specs.declared.many.Kind.{Kind}
 use Rattle.ffi.specs.Answers.{efAnswer}
-use Rattle.ffi.specs.Many.{questionOf, codes, both, answered, manyOf}
+use Rattle.ffi.specs.Many.{questionOf, answerWords, both, answered, manyOf}
 
 -- ---- one answer
 
@@ -38,25 +38,25 @@ two-stored l j a b h =
 -- ---- the words of answers
 
 module _ (f : ℕ → Answer) where
-  length-codes : (xs : List ℕ) → length (codes f xs) ≡ 2 * length xs
-  unfolding codes
-  length-codes [] = refl
-  length-codes (x ∷ xs) = let e = length-codes xs in omega arith
+  length-answerWords : (xs : List ℕ) → length (answerWords f xs) ≡ 2 * length xs
+  unfolding answerWords
+  length-answerWords [] = refl
+  length-answerWords (x ∷ xs) = let e = length-answerWords xs in omega arith
 
-  codes-snoc : (xs : List ℕ) (x : ℕ) (r : List ℕ) → codes f (xs ++ x ∷ []) ++ r ≡ codes f xs ++ efAnswer (f x) .kind ∷ efAnswer (f x) .value ∷ r
-  unfolding codes
-  codes-snoc [] x r = refl
-  codes-snoc (y ∷ xs) x r = ap (λ (z : List ℕ). efAnswer (f y) .kind ∷ efAnswer (f y) .value ∷ z) (codes-snoc xs x r)
+  answerWords-snoc : (xs : List ℕ) (x : ℕ) (r : List ℕ) → answerWords f (xs ++ x ∷ []) ++ r ≡ answerWords f xs ++ efAnswer (f x) .kind ∷ efAnswer (f x) .value ∷ r
+  unfolding answerWords
+  answerWords-snoc [] x r = refl
+  answerWords-snoc (y ∷ xs) x r = ap (λ (z : List ℕ). efAnswer (f y) .kind ∷ efAnswer (f y) .value ∷ z) (answerWords-snoc xs x r)
 
   module _ (xs d : List ℕ) where
-    first-codes : (n : ℕ) → n ≤ length xs → length (codes f (take n xs)) ≡ 2 * n
-    first-codes n h = length-codes (take n xs) ∙ ap (λ (y : ℕ). 2 * y) (length-take-le n xs h)
+    first-answerWords : (n : ℕ) → n ≤ length xs → length (answerWords f (take n xs)) ≡ 2 * n
+    first-answerWords n h = length-answerWords (take n xs) ∙ ap (λ (y : ℕ). 2 * y) (length-take-le n xs h)
 
     answered-long : (n : ℕ) → n ≤ length xs → 2 * n ≤ length d → length (answered f n xs d) ≡ length d
     unfolding answered
     answered-long n h l =
-        let a = length-append (codes f (take n xs)) (drop (2 * n) d) in
-        let b = first-codes n h in
+        let a = length-append (answerWords f (take n xs)) (drop (2 * n) d) in
+        let b = first-answerWords n h in
         let c = length-drop (2 * n) d in
         omega arith
 
@@ -64,17 +64,17 @@ module _ (f : ℕ → Answer) where
         → take (2 * n) (answered f n xs d) ++ efAnswer (f (getD xs n 0)) .kind ∷ efAnswer (f (getD xs n 0)) .value ∷ drop (2 * n + 2) (answered f n xs d) ≡ answered f (n + 1) xs d
     unfolding answered
     one-more n h =
-        let A : List ℕ = codes f (take n xs) in
+        let A : List ℕ = answerWords f (take n xs) in
         let B : List ℕ = drop (2 * n) d in
         let k : ℕ = efAnswer (f (getD xs n 0)) .kind in
         let v : ℕ = efAnswer (f (getD xs n 0)) .value in
-        let la : length A ≡ 2 * n = first-codes n (le-of-lt h) in
+        let la : length A ≡ 2 * n = first-answerWords n (le-of-lt h) in
         let past : drop (2 * n + 2) (A ++ B) ≡ drop (2 * (n + 1)) d =
         ap (λ (y : ℕ). drop (y + 2) (A ++ B)) (sym la) ∙ drop-append-add A B 2 ∙ drop-drop 2 (2 * n) d
         ∙ ap (λ (y : ℕ). drop y d) (let e : 2 * n + 2 ≡ 2 * (n + 1) = omega arith in e) in
         ap₂ (λ (y z : List ℕ). y ++ k ∷ v ∷ z) (take-at A B (2 * n) la) past
-        ∙ sym (codes-snoc (take n xs) (getD xs n 0) (drop (2 * (n + 1)) d))
-        ∙ ap (λ (y : List ℕ). codes f y ++ drop (2 * (n + 1)) d) (sym (take-suc xs n 0 h) ∙ ap (λ (y : ℕ). take y xs) (sym (add-one n)))
+        ∙ sym (answerWords-snoc (take n xs) (getD xs n 0) (drop (2 * (n + 1)) d))
+        ∙ ap (λ (y : List ℕ). answerWords f y ++ drop (2 * (n + 1)) d) (sym (take-suc xs n 0 h) ∙ ap (λ (y : ℕ). take y xs) (sym (add-one n)))
 
 -- ---- the loop
 
@@ -86,7 +86,7 @@ pub record Answered (f : ℕ → Answer) (xs d : List ℕ) (count : ℕ) (out : 
 
 module _ (f : ℕ → Answer) (xs d : List ℕ) (count : ℕ) where
   pub none-answered : Answered f xs d count d 0
-  unfolding answered codes
+  unfolding answered answerWords
   none-answered = record { upto = omega arith; words = refl; long = refl }
 
   module _ (many : count ≤ length xs) (room : 2 * count ≤ length d) (out : List ℕ) (n : ℕ) (s : Answered f xs d count out n) where

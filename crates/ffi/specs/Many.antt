@@ -19,9 +19,9 @@ questionOf kind.Successor x = Successor x
 questionOf kind.Binsearch x = Binsearch x
 
 -- the answers to the arguments, two words to each: its kind and its value
-unfoldable pub codes : (ℕ → Answer) → List ℕ → List ℕ
-codes f [] = []
-codes f (x ∷ xs) = efAnswer (f x) .kind ∷ efAnswer (f x) .value ∷ codes f xs
+unfoldable pub answerWords : (ℕ → Answer) → List ℕ → List ℕ
+answerWords f [] = []
+answerWords f (x ∷ xs) = efAnswer (f x) .kind ∷ efAnswer (f x) .value ∷ answerWords f xs
 
 -- as many answers as both hold
 unfoldable pub both : List ℕ → List ℕ → ℕ
@@ -29,7 +29,7 @@ both xs out = min (length xs) (length out / 2)
 
 -- n arguments are answered, and the later words stay
 unfoldable pub answered : (ℕ → Answer) → ℕ → List ℕ → List ℕ → List ℕ
-answered f n xs out = codes f (take n xs) ++ drop (2 * n) out
+answered f n xs out = answerWords f (take n xs) ++ drop (2 * n) out
 
 -- the number of answers and every word of out; 7 comes first, and alters none
 unfoldable pub manyOf : List ℕ → (ℕ → Question) → List ℕ → List ℕ → Outcome

@@ -12,16 +12,8 @@ open-requires c κs = search needs
 enum-known-p : tie.Need-enum-known-p
 enum-known-p c = search needs
 
-select-in-byte-table-requires : tie.Need-select-in-byte-table-requires
-select-in-byte-table-requires c κs = search needs
-
-debruijn64-table-requires : tie.Need-debruijn64-table-requires
-debruijn64-table-requires c κs = search needs
-
-read-from-opened-requires : tie.Need-read-from-opened-requires
-read-from-opened-requires c κs =
-    let h = answers.is-open _ _ _ (c .before .before .before .before .before .before .before .before .«open» .ensures) (c .before .before .before .before .before .before .p .given .1) in
-    (record { ok = h .0; parts = h .1; rule = c .before .before .before .before .select-in-byte-table .ensures }, c .before .before .before .debruijn64-table .ensures)
+read-accepted-requires : tie.Need-read-accepted-requires
+read-accepted-requires c κs = answers.is-open _ _ _ (c .before .before .before .before .«open» .ensures) (c .before .before .p .given .1)
 
 enum-known-e : tie.Need-enum-known-e
 enum-known-e c = search needs
@@ -31,9 +23,9 @@ same-length c = search needs
 
 returns : tie.Need-returns
 returns c =
-    let s = c .before .before .before .before .before .before .before .before .before .before .before .before .before .before in
-    let r = c .before .before .read-from-opened in
-    reading.read-opened (s .args .image .now) (s .args .k) (s .args .out .now) (answers.is-open _ _ _ (c .before .before .before .before .before .before .before .before .before .before .before .«open» .ensures) (c .before .before .before .before .before .before .before .before .before .p .given .1) .0) (r .result) _ (r .ensures .0) (r .ensures .1)
+    let s = c .before .before .before .before .before .before .before .before .before .before in
+    let r = c .before .before .read-accepted in
+    reading.read-opened (s .args .image .now) (s .args .k) (s .args .out .now) (answers.is-open _ _ _ (c .before .before .before .before .before .before .before .«open» .ensures) (c .before .before .before .before .before .p .given .1) .0) (r .result) _ (r .ensures .0) (r .ensures .1)
 
 returns-2 : tie.Need-returns-2
 returns-2 c = let s = c .before .before .before .before .before .before in reading.read-refused (s .args .image .now) (s .args .k) (s .args .out .now) _ _ (c .before .before .before .«open» .ensures) (c .before .e .given .1)
@@ -44,9 +36,7 @@ read-from-spec =
     (tie.spec
     open-requires
     enum-known-p
-    select-in-byte-table-requires
-    debruijn64-table-requires
-    read-from-opened-requires
+    read-accepted-requires
     enum-known-e
     same-length
     returns
