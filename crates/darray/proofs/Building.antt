@@ -16,7 +16,7 @@ use Rattle.bit_words.proofs.Runs.{bitOver-le}
 use Rattle.darray_positions.specs.Positions.{positions}
 use Rattle.darray_positions.specs.Index.{pos, blocks, size, wide, spill, before, lanes, laneWords, indexWords}
 use Rattle.darray_positions.specs.Scan.{Position, Inside}
-use Rattle.darray.specs.Sizes.{Sized, Writable}
+use Rattle.darray.specs.Sizes.{sizesBy, Sized, Writable}
 use Rattle.darray.specs.Pending.{Due, Sampled, Loaded, LanesRise, blockWide, blockSpill, flushed, Flushable, Matches, lanesAt, overAt}
 use Rattle.darray_positions.specs.declared.scan.Cursor.{Cursor}
 use Rattle.darray.specs.declared.inner.Sizes.{Sizes}
@@ -80,6 +80,13 @@ unfolding blockWide wide
 wide-block a n P j e d = ap₂ (λ (x y : ℕ). leb 65536 (x - y)) d e
 
 -- what is said of the sizes
+-- by how many positions there are, and how many of them go to the overflow
+pub by-sized : (P : List ℕ) (n o : ℕ) → n ≡ length P → o ≡ before P ((n + 1023) / 1024) → Sized P (sizesBy n o)
+unfolding blocks lanes
+by-sized P n o e f =
+    let d = ap (λ (m : ℕ). (m + 1023) / 1024) e in
+    record { positions = e; entries = d; lanes = ap (λ (m : ℕ). (m + 31) / 32) e; overflow = f ∙ ap (before P) d }
+
 module _ (P : List ℕ) (s : Sizes) (z : Sized P s) where
   pub lanes-start : s .entries + (s .lanes + 3) / 4 ≡ blocks P + laneWords P
   unfolding laneWords

@@ -9,6 +9,10 @@ use Rattle.bit_words.specs.Vector.{wordsFor, bitOver}
 use Rattle.darray_positions.specs.Index.{blocks, lanes, before, indexWords}
 use Rattle.darray.specs.declared.inner.Sizes.{Sizes}
 
+-- the sizes of an index over n positions, o of which go to the overflow
+abbrev pub sizesBy : ℕ → ℕ → Sizes
+sizesBy n o = record { positions = n; entries = (n + 1023) / 1024; lanes = (n + 31) / 32; overflow = o }
+
 -- the sizes of the index of P
 pub record Sized (P : List ℕ) (s : Sizes) : Type 0 where
   pub positions : s .positions ≡ length P

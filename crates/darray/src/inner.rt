@@ -6,7 +6,7 @@
 // more memory than one block's positions.
 //
 // `write_within` and `is_index` are inner: the first demands the sizes that `measure` gives of the bits, and room for the index, the second
-// how many positions the bits have. `total` demands sizes whose sum is in range.
+// how many positions the bits have. `sizes_by` and `total` demand numbers whose sums are in range.
 ghost use mathlib.Core.Path.{_≡_};
 ghost use mathlib.Core.List.{_++_};
 ghost use Prim.Native.Nat.{_+_, _-_, _/_, _^_, _≤_, _<_};
@@ -20,7 +20,7 @@ ghost use Rattle.darray_positions.specs.Index.{before, indexWords};
 ghost use Rattle.darray.specs.Pending.{Decides};
 ghost use Rattle.darray.specs.Queries.{ofMeasured, ofBuiltIndex, ofValidated, measureOf, buildIndexOf, validateOf};
 ghost use Rattle.darray_positions.specs.Scan.{FullBlocks};
-ghost use Rattle.darray.specs.Sizes.{Sized, Writable, Comparable};
+ghost use Rattle.darray.specs.Sizes.{sizesBy, Sized, Writable, Comparable};
 use crate::pending::Compared;
 use crate::pending::compare;
 use crate::pending::empty;
@@ -144,6 +144,19 @@ fn overflow_of(
     overflow
 }
 
+// The sizes of an index over n positions, of which so many go to the overflow.
+pub fn sizes_by(n: usize, overflow: usize) -> Sizes
+    requires { ⌜ n < 2 ^ 63 ⌝ }
+    ensures { λ r. ⌜ r ≡ sizesBy n overflow ⌝ }
+{
+    Sizes {
+        positions: n,
+        entries: (n + (BLOCK_LEN - 1)) / BLOCK_LEN,
+        lanes: (n + (SUBBLOCK_LEN - 1)) / SUBBLOCK_LEN,
+        overflow,
+    }
+}
+
 // The sizes of the index. The positions are counted while the ends of the full blocks are searched.
 fn sizes_of(words: &[u64], len: usize, over_one: bool) -> Sizes
     requires { ⌜ ((wordsFor len ≤ length (now words)) × (len < 2 ^ 63)) ⌝ }
@@ -152,12 +165,7 @@ fn sizes_of(words: &[u64], len: usize, over_one: bool) -> Sizes
     let table = select_in_byte_table();
     let full = full_blocks(&table, words, len, over_one);
     let n = full.positions + tail_positions(words, len, over_one);
-    Sizes {
-        positions: n,
-        entries: (n + (BLOCK_LEN - 1)) / BLOCK_LEN,
-        lanes: (n + (SUBBLOCK_LEN - 1)) / SUBBLOCK_LEN,
-        overflow: overflow_of(&table, words, len, over_one, n, full),
-    }
+    sizes_by(n, overflow_of(&table, words, len, over_one, n, full))
 }
 
 // How many words the index has.

@@ -8,6 +8,7 @@ pub mod Heading
 pub mod Images
 pub mod Indexing
 pub mod Limits
+pub mod Listing
 pub mod Parts
 pub mod Placing
 pub mod Planning

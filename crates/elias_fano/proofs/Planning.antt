@@ -25,7 +25,7 @@ use Rattle.darray_positions.proofs.Counts.{count-few}
 use Rattle.darray_positions.proofs.Index.{before-le}
 use Rattle.darray_positions.proofs.Positions.{length-places}
 use Rattle.darray.proofs.Within.{measured-sized}
-use Rattle.elias_fano.specs.Finishing.{Measurable, zerosOf, onesWords, zerosWords, Planned}
+use Rattle.elias_fano.specs.Finishing.{Measurable, zerosOf, zerosWords, Short, planBy, Planned}
 
 -- ---- what is measured
 
@@ -56,35 +56,19 @@ zeros-le true ws len = positions-le false ws len
 zeros-le false ws len = omega arith
 
 module _ (P : List ℕ) (s : Sizes) (z : Sized P s) (few : length P < 2 ^ 32) where
-  pub sizes-small : (s .entries < 2 ^ 32) × (s .lanes < 2 ^ 32) × (s .overflow < 2 ^ 32)
+  sizes-small : Short s
   unfolding blocks lanes
   sizes-small = (omega (arith, z .entries), omega (arith, z .lanes), omega (arith, z .overflow, before-le P (blocks P)))
 
-  pub total-small : s .entries + (s .lanes + 3) / 4 + s .overflow < 2 ^ 34
-  total-small = omega (arith, sizes-small .0, sizes-small .1, sizes-small .2)
+module _ (c : Bool) (ws : List ℕ) (len : ℕ) (o z : Sizes) (so : Sized (positions true ws len) o) (sz : Sized (zerosOf c ws len) z) where
+  pub both-short : len < 2 ^ 32 → Short o × Short z
+  both-short h = (sizes-small (positions true ws len) o so (lt-of-le-of-lt (positions-le true ws len) h), sizes-small (zerosOf c ws len) z sz (lt-of-le-of-lt (zeros-le c ws len) h))
 
-module _ (c : Bool) (ws : List ℕ) (len : ℕ) (m : Measurable ws len) (o z : Sizes) (so : Sized (positions true ws len) o) (sz : Sized (zerosOf c ws len) z) where
-  pub ones-small : (o .entries < 2 ^ 32) × (o .lanes < 2 ^ 32) × (o .overflow < 2 ^ 32)
-  ones-small = sizes-small (positions true ws len) o so (lt-of-le-of-lt (positions-le true ws len) (m .1))
-
-  pub zeros-small : (z .entries < 2 ^ 32) × (z .lanes < 2 ^ 32) × (z .overflow < 2 ^ 32)
-  zeros-small = sizes-small (zerosOf c ws len) z sz (lt-of-le-of-lt (zeros-le c ws len) (m .1))
-
-  module _ (at x : ℕ) (h : at < 2 ^ 32) (ex : x ≡ o .entries + (o .lanes + 3) / 4 + o .overflow) where
-    pub ones-fit : Fits w64 (at + x)
-    ones-fit = record { fits = omega (arith, total-small (positions true ws len) o so (lt-of-le-of-lt (positions-le true ws len) (m .1))) }
-
-    module _ (y : ℕ) (ey : y ≡ z .entries + (z .lanes + 3) / 4 + z .overflow) where
-      pub zeros-fit : Fits w64 (at + x + y)
-      zeros-fit = record {
-        fits = omega (arith, total-small (positions true ws len) o so (lt-of-le-of-lt (positions-le true ws len) (m .1)), total-small (zerosOf c ws len) z sz (lt-of-le-of-lt (zeros-le c ws len) (m .1)));
-      }
-
-      pub is-planned : Planned c ws len at (record { ones = o; zeros = z; «high_len» = len; «ones_at» = at; «zeros_at» = at + x; end = at + x + y })
-      is-planned =
-          let a : x ≡ length (onesWords ws len) = ex ∙ building.index-length (positions true ws len) o so in
-          let b : y ≡ length (zerosWords c ws len) = ey ∙ building.index-length (zerosOf c ws len) z sz in
-          record { ones = so; zeros = sz; high = refl; ones-at = refl; zeros-at = ap (λ (k : ℕ). at + k) a; end = ap₂ (λ (i j : ℕ). at + i + j) a b }
+  pub is-planned : (at : ℕ) → Planned c ws len at (planBy o z len at)
+  is-planned at =
+      let a = building.index-length (positions true ws len) o so in
+      let b = building.index-length (zerosOf c ws len) z sz in
+      record { ones = so; zeros = sz; high = refl; ones-at = refl; zeros-at = ap (λ (k : ℕ). at + k) a; end = ap₂ (λ (i j : ℕ). at + i + j) a b }
 
 -- ---- what is written
 

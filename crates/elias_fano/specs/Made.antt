@@ -33,3 +33,8 @@ ofPushed b (pushed.Refused e) w = made (refused (numberOf e)) b w
 abbrev pub ofBuilt : Builder → Built → List ℕ → Made
 ofBuilt b (built.Words k) w = made (value k) b w
 ofBuilt b (built.Refused e) w = made (refused (numberOf e)) b w
+
+-- of a call that has no builder
+abbrev pub builtAnswer : Built → Answer
+builtAnswer (built.Words k) = value k
+builtAnswer (built.Refused e) = refused (numberOf e)

@@ -9,7 +9,7 @@ ghost use Rattle.bit_words.specs.Vector.{wordsFor};
 ghost use Rattle.darray_positions.specs.Positions.{positions};
 ghost use Rattle.darray.specs.Sizes.{Sized, Writable};
 ghost use Rattle.elias_fano_words.specs.Sizes.{lowLen, highLen};
-ghost use Rattle.elias_fano.specs.Finishing.{Measurable, zerosOf, zerosWords, Planned, Holding, Finishable};
+ghost use Rattle.elias_fano.specs.Finishing.{Measurable, zerosOf, zerosWords, Short, planBy, Planned, Holding, Finishable};
 ghost use Rattle.elias_fano.specs.Steps.{finishedWords};
 use crate::builder::Builder;
 use bit_words::words_for;
@@ -30,7 +30,7 @@ pub struct Plan {
 }
 
 // The sizes of the index of no positions.
-fn no_sizes() -> Sizes
+pub fn no_sizes() -> Sizes
     ensures { λ r. ⌜ Sized [] r ⌝ }
 {
     Sizes {
@@ -63,13 +63,11 @@ fn zeros_sizes(words: &[u64], len: usize, rank: bool) -> Sizes
     no_sizes()
 }
 
-// The indexes over the high bits, the first of which is to begin at the place `at`.
-fn plan_indexes(high: &[u64], len: usize, rank: bool, at: usize) -> Plan
-    requires { ⌜ (Measurable (now high) len × (at < 2 ^ 32)) ⌝ }
-    ensures { λ r. ⌜ Planned rank (now (high .entry)) len at r ⌝ }
+// The plan of indexes of these sizes over len high bits, the first of which is to begin at the place `at`.
+pub fn plan_by(ones: Sizes, zeros: Sizes, len: usize, at: usize) -> Plan
+    requires { ⌜ (Short ones × Short zeros × (at < 2 ^ 32)) ⌝ }
+    ensures { λ r. ⌜ r ≡ planBy ones zeros len at ⌝ }
 {
-    let ones = sizes_over(high, len, true);
-    let zeros = zeros_sizes(high, len, rank);
     let zeros_at = at + total(ones);
     Plan {
         ones,
@@ -79,6 +77,16 @@ fn plan_indexes(high: &[u64], len: usize, rank: bool, at: usize) -> Plan
         zeros_at,
         end: zeros_at + total(zeros),
     }
+}
+
+// The plan of the indexes over the high bits.
+fn plan_indexes(high: &[u64], len: usize, rank: bool, at: usize) -> Plan
+    requires { ⌜ (Measurable (now high) len × (at < 2 ^ 32)) ⌝ }
+    ensures { λ r. ⌜ Planned rank (now (high .entry)) len at r ⌝ }
+{
+    let ones = sizes_over(high, len, true);
+    let zeros = zeros_sizes(high, len, rank);
+    plan_by(ones, zeros, len, at)
 }
 
 // The plan of the image of the times that the words hold.

@@ -5,12 +5,12 @@ use mathlib.Core.Bool.{Bool, cond}
 use Prim.Native.Nat.{ℕ, _-_, _^_, _≤_, _<_}
 use borrow.Author.Tests.{lt-ltb, le-ltb, le-leb, lt-leb, eq-eqb, ne-eqb}
 use lib.ListN.{length, drop}
-use Rattle.errors.specs.Answer.{Answer, value, none, done, refused, Outcome, leaves}
+use Rattle.errors.specs.Answer.{Answer, value, none, done, refused, Outcome, leaves, passing}
 use Rattle.errors.specs.Refusal.{numberOf}
 use Rattle.errors.specs.declared.Refusal.{Refusal}
 use Rattle.elias_fano.specs.Ask.{Delta, Len, query}
 use Rattle.prefix_summed_elias_fano.specs.Building.{Summable, Ready, Tests, SumOf}
-use Rattle.prefix_summed_elias_fano.specs.Sums.{sum, sumsImage, sliceTest, passing, fromSliceOf, accessOf, lenOf}
+use Rattle.prefix_summed_elias_fano.specs.Sums.{sum, sumsImage, sliceTest, fromSliceOf, accessOf, lenOf}
 use Rattle.prefix_summed_elias_fano.specs.declared.build.Job.{Job}
 use Rattle.prefix_summed_elias_fano.specs.declared.build.Summed.{Summed}
 use Rattle.prefix_summed_elias_fano.specs.declared.build.Summed.the-variants as summed

@@ -10,12 +10,12 @@ use borrow.Author.Tests.{le-ltb, ne-eqb, ltb-false, leb-false}
 use lib.Dec.{eqb, leb, ltb}
 use lib.ListN.{length, getD, take, drop}
 use lib.Seq.{take-append-seam}
-use Rattle.errors.specs.Answer.{Answer, value, none, done, refused, Outcome, leaves}
+use Rattle.errors.specs.Answer.{Answer, value, none, done, refused, Outcome, leaves, passing}
 use Rattle.elias_fano.specs.Accept.{universe, declared, ranked, times, accepted}
 use Rattle.elias_fano.specs.Ask.{Question, Delta, Len, nth, gap, ask, query}
 use Rattle.elias_fano.proofs.Images.{image-accepted, image-times}
 use Rattle.prefix_summed_elias_fano.specs.Building.{Summable}
-use Rattle.prefix_summed_elias_fano.specs.Sums.{sum, sums, sumsImage, sliceTest, passing, fromSliceOf, accessOf, lenOf, Restored, ReadsBack}
+use Rattle.prefix_summed_elias_fano.specs.Sums.{sum, sums, sumsImage, sliceTest, fromSliceOf, accessOf, lenOf, Restored, ReadsBack}
 use Rattle.prefix_summed_elias_fano.proofs.Filing as filing
 use Rattle.prefix_summed_elias_fano.proofs.Sums as sums-law
 

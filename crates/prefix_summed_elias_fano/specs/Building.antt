@@ -2,19 +2,17 @@
 -- items. Assumes nothing.
 use mathlib.Core.Path.{_≡_}
 use mathlib.Core.List.{List, _++_}
-use mathlib.Core.Bool.{true}
-use Prim.Native.Nat.{ℕ, suc, _-_, _*_, _^_, _≤_, _<_}
+use mathlib.Core.Bool.{false}
+use Prim.Native.Nat.{ℕ, suc, _-_, _^_, _≤_, _<_}
 use lib.ListN.{length, take, drop, replicate}
 use Rattle.errors.specs.Answer.{refused}
 use Rattle.errors.specs.Refusal.{numberOf}
-use Rattle.bit_words.specs.Vector.{wordsFor}
-use Rattle.darray.specs.Sizes.{Sized}
-use Rattle.elias_fano_words.specs.Image.{highPositions}
-use Rattle.elias_fano_words.specs.Sizes.{lowLen, highLen, startLen, sizesOf}
-use Rattle.elias_fano_words.specs.Times.{bitWords}
+use Rattle.elias_fano_words.specs.Image.{highWords}
+use Rattle.elias_fano_words.specs.Sizes.{highLen, startLen, sizesOf}
 use Rattle.elias_fano_words.specs.declared.sizes.Sizes.{Sizes}
 use Rattle.elias_fano.specs.declared.finish.Plan.{Plan}
 use Rattle.elias_fano.specs.Accept.{onesAt}
+use Rattle.elias_fano.specs.Finishing.{Planned, filedIn}
 use Rattle.prefix_summed_elias_fano.specs.Sums.{sum, sums, sumsImage, sliceTest}
 use Rattle.prefix_summed_elias_fano.specs.declared.build.Job.{Job}
 use Rattle.prefix_summed_elias_fano.specs.declared.build.TestedSlice.{TestedSlice}
@@ -41,28 +39,22 @@ pub record Part (A : List ℕ) (from to x : ℕ) : Type 0 where
   pub small : sum A < 2 ^ 64
 
 -- the plan of the image
-pub record Laid (A : List ℕ) (p : Plan) : Type 0 where
-  pub ones : Sized (highPositions (suc (sum A)) (length A) true (sums A)) (p .ones)
-  pub zeros : p .zeros ≡ record { positions = 0; entries = 0; lanes = 0; overflow = 0 }
-  pub high : p .«high_len» ≡ highLen (suc (sum A)) (length A)
-  pub ones-at : p .«ones_at» ≡ onesAt (suc (sum A)) (length A) (length A)
-  pub zeros-at : p .«zeros_at» ≡ p .end
-  pub end : p .end ≡ length (sumsImage A)
+abbrev pub Laid : List ℕ → Plan → Type 0
+Laid A p = Planned false (highWords (suc (sum A)) (length A) (sums A)) (highLen (suc (sum A)) (length A)) (onesAt (suc (sum A)) (length A) (length A)) p
 
--- nothing stands against writing it
+-- k words are enough for its start
 pub record Writing (A : List ℕ) (s : Sizes) (k : ℕ) : Type 0 where
   pub summable : Summable A
   pub sizes : s ≡ sizesOf (suc (sum A)) (length A)
-  pub room : length (sumsImage A) ≤ k
+  pub room : startLen (suc (sum A)) (length A) ≤ k
 
 -- the words that a start of these settings zeroes are 0
 abbrev pub Zeroed : List ℕ → List ℕ → Type 0
 Zeroed A w = w ≡ replicate (startLen (suc (sum A)) (length A)) 0 ++ drop (startLen (suc (sum A)) (length A)) w
 
 -- the words after a start of these settings, and a reading of each sum
-unfoldable pub filedIn : List ℕ → List ℕ → List ℕ
-filedIn A w =
-    replicate 6 0 ++ (bitWords (suc (sum A)) (length A) (wordsFor (length A * lowLen (suc (sum A)) (length A))) (sums A) ++ drop (startLen (suc (sum A)) (length A)) w)
+abbrev pub filedSums : List ℕ → List ℕ → List ℕ
+filedSums A w = filedIn (suc (sum A)) (length A) (sums A) w
 
 -- nothing stands against it, with k words lent
 pub record Ready (A : List ℕ) (k : ℕ) (j : Job) : Type 0 where

@@ -5,12 +5,9 @@ use mathlib.Core.Bool.{false, cond}
 use Prim.Native.Nat.{ℕ, suc, _+_, _-_, _^_}
 use lib.Dec.{eqb, leb, ltb}
 use lib.ListN.{length, take, drop}
-use Rattle.errors.specs.Answer.{Answer, value, none, done, refused, Outcome, leaves}
-use Rattle.errors.specs.Refusal.{numberOf}
+use Rattle.errors.specs.Answer.{Answer, value, none, done, refused, Outcome, leaves, passing}
 use Rattle.elias_fano_words.specs.Image.{image}
 use Rattle.elias_fano.specs.Ask.{Delta, Len, nth, query}
-use Rattle.elias_fano.specs.declared.builder.Built.{Built}
-use Rattle.elias_fano.specs.declared.builder.Built.the-variants as built
 
 unfoldable pub sum : List ℕ → ℕ
 sum [] = 0
@@ -28,10 +25,6 @@ sums A = sumsFrom 0 A
 unfoldable pub sumsImage : List ℕ → List ℕ
 sumsImage A = image (suc (sum A)) (length A) false (sums A)
 
-abbrev pub ofBuiltSums : Built → Answer
-ofBuiltSums (built.Words k) = value k
-ofBuiltSums (built.Refused e) = refused (numberOf e)
-
 -- 2, 12, 3, with k words lent
 unfoldable pub sliceTest : List ℕ → ℕ → Answer
 sliceTest A k =
@@ -39,13 +32,6 @@ sliceTest A k =
     (cond (leb (2 ^ 64 - 1) (sum A)) (refused 12)
     (cond (ltb k (length (sumsImage A))) (refused 3)
     done))
-
--- what a call leaves whose tests say `done` or refuse, and whose work leaves o
-abbrev pub passing : Answer → List ℕ → Outcome → Outcome
-passing done w o = o
-passing (refused k) w o = leaves (refused k) w
-passing (value k) w o = leaves (value k) w
-passing none w o = leaves none w
 
 -- "an empty list is accepted and has no words"
 unfoldable pub fromSliceOf : List ℕ → List ℕ → Outcome

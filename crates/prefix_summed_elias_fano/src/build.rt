@@ -12,19 +12,21 @@ ghost use Rattle.darray_positions.specs.Index.{before};
 ghost use Rattle.darray.specs.Sizes.{Sized};
 ghost use Rattle.elias_fano_words.specs.Image.{highPositions};
 ghost use Rattle.elias_fano_words.specs.Sizes.{lowLen, sizesOf};
-ghost use Rattle.prefix_summed_elias_fano.specs.Building.{SumOf, Summable, Part, Laid, Writing, Ready, Tests, Zeroed, filedIn};
-ghost use Rattle.prefix_summed_elias_fano.specs.Sums.{sum as sumOf, sums, sumsImage, ofBuiltSums, fromSliceOf};
+ghost use Rattle.elias_fano.specs.Made.{builtAnswer};
+ghost use Rattle.prefix_summed_elias_fano.specs.Building.{SumOf, Summable, Part, Laid, Writing, Ready, Tests, Zeroed, filedSums};
+ghost use Rattle.prefix_summed_elias_fano.specs.Sums.{sum as sumOf, sums, sumsImage, fromSliceOf};
 use bit_words::fill;
 use darray::inner::Sizes as IndexSizes;
-use darray::inner::total;
+use darray::inner::sizes_by;
 use darray_positions::scan::BLOCK_LEN;
-use darray_positions::scan::SUBBLOCK_LEN;
 use darray_positions::scan::block_size;
 use darray_positions::scan::spilled;
 use elias_fano::builder::Builder;
 use elias_fano::builder::Built;
 use elias_fano::builder::file;
 use elias_fano::finish::Plan;
+use elias_fano::finish::no_sizes;
+use elias_fano::finish::plan_by;
 use elias_fano::finish::write_image;
 use elias_fano_words::sizes::MAX_VALS;
 use elias_fano_words::sizes::Sizes;
@@ -114,13 +116,7 @@ fn ones_sizes(items: &[u64], l: usize) -> IndexSizes
     requires { ⌜ (Summable (now items) × (l ≡ lowLen (suc (sumOf (now items))) (length (now items)))) ⌝ }
     ensures { λ r. ⌜ Sized (highPositions (suc (sumOf (now (items .entry)))) (length (now (items .entry))) true (sums (now (items .entry)))) r ⌝ }
 {
-    let n = items.len();
-    IndexSizes {
-        positions: n,
-        entries: (n + (BLOCK_LEN - 1)) / BLOCK_LEN,
-        lanes: (n + (SUBBLOCK_LEN - 1)) / SUBBLOCK_LEN,
-        overflow: overflow_of(items, l),
-    }
+    sizes_by(items.len(), overflow_of(items, l))
 }
 
 // The plan of the image.
@@ -129,26 +125,13 @@ fn plan(items: &[u64], s: Sizes) -> Plan
     ensures { λ r. ⌜ Laid (now (items .entry)) r ⌝ }
 {
     let ones = ones_sizes(items, s.low_len);
-    let end = s.start_len + total(ones);
-    Plan {
-        ones,
-        zeros: IndexSizes {
-            positions: 0,
-            entries: 0,
-            lanes: 0,
-            overflow: 0,
-        },
-        high_len: s.high_len,
-        ones_at: s.start_len,
-        zeros_at: end,
-        end,
-    }
+    plan_by(ones, no_sizes(), s.high_len, s.start_len)
 }
 
 // Files the prefix sums, one after the other, into words that are zeroed for them.
 fn file_all(items: &[u64], universe: u64, s: Sizes, buffer: &mut [u64])
     requires { ⌜ (Writing (now items) s (length (now buffer)) × (universe ≡ suc (sumOf (now items))) × Zeroed (now items) (now buffer)) ⌝ }
-    ensures { λ _. ⌜ now (buffer .exit) ≡ filedIn (now (items .entry)) (now (buffer .entry)) ⌝ }
+    ensures { λ _. ⌜ now (buffer .exit) ≡ filedSums (now (items .entry)) (now (buffer .entry)) ⌝ }
 {
     let n = items.len() as u64;
     let mut sum: u64 = 0;
@@ -169,7 +152,7 @@ fn file_all(items: &[u64], universe: u64, s: Sizes, buffer: &mut [u64])
 // Zeroes the words of a start, and files the prefix sums into them.
 fn file_sums(items: &[u64], universe: u64, s: Sizes, buffer: &mut [u64])
     requires { ⌜ (Writing (now items) s (length (now buffer)) × (universe ≡ suc (sumOf (now items)))) ⌝ }
-    ensures { λ _. ⌜ now (buffer .exit) ≡ filedIn (now (items .entry)) (now (buffer .entry)) ⌝ }
+    ensures { λ _. ⌜ now (buffer .exit) ≡ filedSums (now (items .entry)) (now (buffer .entry)) ⌝ }
 {
     fill(&mut *buffer, s.start_len, 0);
     file_all(items, universe, s, &mut *buffer);
@@ -228,7 +211,7 @@ fn test(items: &[u64], len: usize) -> TestedSlice
 // Writes the record of the prefix sums of the items to the front of the buffer, and leaves its later words. The answer is how many words
 // it has: none for no items.
 pub fn from_slice(items: &[u64], buffer: &mut [u64]) -> Built
-    ensures { λ r. ⌜ leaves (ofBuiltSums r) (now (buffer .exit)) ≡ fromSliceOf (now (items .entry)) (now (buffer .entry)) ⌝ }
+    ensures { λ r. ⌜ leaves (builtAnswer r) (now (buffer .exit)) ≡ fromSliceOf (now (items .entry)) (now (buffer .entry)) ⌝ }
 {
     if items.len() == 0 {
         return Built::Words(0);

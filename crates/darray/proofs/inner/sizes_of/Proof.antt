@@ -1,15 +1,16 @@
 -- `darray::inner::sizes_of` meets its contract.
 -- Assumes nothing.
-use mathlib.Core.Path.{_≡_, ap, _∙_}
-use Prim.Native.Nat.{ℕ, _+_, _/_, _^_, _<_}
+use mathlib.Core.Path.{_≡_, ap, _∙_, subst⁻¹}
+use Prim.Native.Nat.{ℕ, _+_, _^_, _<_}
 use native.Mathlib.Omega.{arith}
 use Rattle.broadword.specs.Bits.{count}
 use Rattle.bit_words.specs.Vector.{bitOver}
 use Rattle.darray_positions.specs.Positions.{positions}
-use Rattle.darray_positions.specs.Index.{blocks, before, lanes}
 use Rattle.darray_positions.proofs.Blocks as block
 use Rattle.darray_positions.proofs.Counts as scan
 use borrow.Author.Needs.{needs}
+use Rattle.darray.specs.Sizes.{Sized}
+use Rattle.darray.proofs.Building as building
 use Rattle.darray.proofs.inner.sizes_of.Statement.{statement}
 use Rattle.darray.proofs.inner.sizes_of.Tie as tie
 
@@ -36,31 +37,20 @@ few c =
 add-n : tie.Need-add-n
 add-n c = omega (arith, few c)
 
-sub-t9 : tie.Need-sub-t9
-sub-t9 c = search needs
-
-add-t10 : tie.Need-add-t10
-add-t10 c = omega (arith, few c)
-
-sub-t12 : tie.Need-sub-t12
-sub-t12 c = search needs
-
-add-t13 : tie.Need-add-t13
-add-t13 c = omega (arith, few c)
-
 overflow-of-requires : tie.Need-overflow-of-requires
 overflow-of-requires c κs =
     let s = c .before .before .before .before .before .before .before in
     (c .before .before .before .before .before .select-in-byte-table .ensures, s .pre .0, s .pre .1, all (c .before), c .before .before .before .full-blocks .ensures)
 
+sizes-by-requires : tie.Need-sizes-by-requires
+sizes-by-requires c κs = few (c .before .before)
+
 returns : tie.Need-returns
-unfolding blocks lanes
 returns c =
-    let a = c .before .before .before .before .before .before .before .before .args in
+    let a = c .before .before .before .before .before .before .before .before .before .args in
     let P = positions (a .over-one) (a .words .now) (a .len) in
-    let e = block.length-is (a .over-one) (a .words .now) (a .len) _ (all (c .before .before)) in
-    let d = ap (λ (m : ℕ). (m + 1023) / 1024) e in
-    record { positions = e; entries = d; lanes = ap (λ (m : ℕ). (m + 31) / 32) e; overflow = c .overflow-of .ensures ∙ ap (before P) d }
+    let e = block.length-is (a .over-one) (a .words .now) (a .len) _ (all (c .before .before .before)) in
+    subst⁻¹ (Sized P) (c .sizes-by .ensures) (building.by-sized P _ _ e (c .before .overflow-of .ensures))
 
 pub sizes-of-spec : {M : Type 1} → statement M
 sizes-of-spec =
@@ -70,9 +60,6 @@ sizes-of-spec =
     full-blocks-requires
     tail-positions-requires
     add-n
-    sub-t9
-    add-t10
-    sub-t12
-    add-t13
     overflow-of-requires
+    sizes-by-requires
     returns)

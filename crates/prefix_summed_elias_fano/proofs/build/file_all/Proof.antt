@@ -6,7 +6,8 @@ use mathlib.Core.List.{List}
 use Prim.Native.Nat.{ℕ, suc, _+_, _-_, _≤_, _<_}
 use native.Mathlib.Omega.{arith}
 use lib.ListN.{length, getD, take}
-use Rattle.prefix_summed_elias_fano.specs.Sums.{sum as sumOf}
+use Rattle.prefix_summed_elias_fano.specs.Sums.{sum as sumOf, sums}
+use Rattle.elias_fano.proofs.Listing as listing
 use Rattle.prefix_summed_elias_fano.proofs.Filing as filing
 use Rattle.prefix_summed_elias_fano.proofs.Filing.{filedFirst}
 use Rattle.prefix_summed_elias_fano.proofs.Sums as sums-law
@@ -25,7 +26,7 @@ next-sum : (A : List ℕ) (i x : ℕ) → i < length A → x ≡ sumOf (take i A
 next-sum A i x h e = ap (λ (y : ℕ). y + getD A i 0) e ∙ sym (sums-law.sum-next A i h)
 
 loop-holds : tie.Need-loop-holds Inv-loop μ-loop
-loop-holds c = let s = c .before .before in (omega arith, sym sums-law.sum-none, refl, s .pre .2 ∙ filing.begins (s .args .items .now) (s .pre .0 .summable) (s .args .buffer .now) (λ k. c .slice-known .given k .fits) (s .pre .0 .room))
+loop-holds c = let s = c .before .before in (omega arith, sym sums-law.sum-none, refl, s .pre .2 ∙ listing.begins (suc (sumOf (s .args .items .now))) (length (s .args .items .now)) (sums (s .args .items .now)) (filing.fits (s .args .items .now) (s .pre .0 .summable)) (sums-law.length-sums 0 (s .args .items .now)) (s .args .buffer .now) (λ k. c .slice-known .given k .fits) (s .pre .0 .room))
 
 mul-sum : tie.Need-mul-sum Inv-loop μ-loop
 mul-sum c = search needs
@@ -46,13 +47,13 @@ loop-less : tie.Need-loop-less Inv-loop μ-loop
 loop-less c = omega (arith, c .before .before .before .before .before .loop-test .taken)
 
 loop-again : tie.Need-loop-again Inv-loop μ-loop
-loop-again c = let s = c .before .before .before .before .before .before .before .before .before in let l = c .before .before .before .before .before .before .loop in let e : suc (l .i) ≡ l .i + 1 = omega arith in let f = c .before .before .file .ensures ∙ filing.files (s .args .items .now) (s .pre .0 .summable) (s .args .buffer .now) (λ k. c .before .before .before .before .before .before .before .slice-known .given k .fits) (s .pre .0 .room) (l .i) (c .before .before .before .before .before .loop-test .taken) _ (next-sum (s .args .items .now) (l .i) (l .sum) (c .before .before .before .before .before .loop-test .taken) (l .inv .1)) (s .args .universe) (s .pre .1) _ (l .inv .3) ∙ ap (filedFirst (s .args .items .now) (s .args .buffer .now)) e in (omega (arith, c .before .before .before .before .before .loop-test .taken), next-sum (s .args .items .now) (l .i) (l .sum) (c .before .before .before .before .before .loop-test .taken) (l .inv .1) ∙ ap (λ (k : ℕ). sumOf (take k (s .args .items .now))) e, ap length f ∙ filing.length-held (s .args .items .now) (s .pre .0 .summable) (s .args .buffer .now) (λ k. c .before .before .before .before .before .before .before .slice-known .given k .fits) (s .pre .0 .room) (l .i + 1), f)
+loop-again c = let s = c .before .before .before .before .before .before .before .before .before in let l = c .before .before .before .before .before .before .loop in let e : suc (l .i) ≡ l .i + 1 = omega arith in let f = c .before .before .file .ensures ∙ filing.files (s .args .items .now) (s .pre .0 .summable) (s .args .buffer .now) (λ k. c .before .before .before .before .before .before .before .slice-known .given k .fits) (s .pre .0 .room) (l .i) (c .before .before .before .before .before .loop-test .taken) _ (next-sum (s .args .items .now) (l .i) (l .sum) (c .before .before .before .before .before .loop-test .taken) (l .inv .1)) (s .args .universe) (s .pre .1) _ (l .inv .3) ∙ ap (filedFirst (s .args .items .now) (s .args .buffer .now)) e in (omega (arith, c .before .before .before .before .before .loop-test .taken), next-sum (s .args .items .now) (l .i) (l .sum) (c .before .before .before .before .before .loop-test .taken) (l .inv .1) ∙ ap (λ (k : ℕ). sumOf (take k (s .args .items .now))) e, ap length f ∙ listing.length-held (suc (sumOf (s .args .items .now))) (length (s .args .items .now)) (sums (s .args .items .now)) (filing.fits (s .args .items .now) (s .pre .0 .summable)) (sums-law.length-sums 0 (s .args .items .now)) (s .args .buffer .now) (λ k. c .before .before .before .before .before .before .before .slice-known .given k .fits) (s .pre .0 .room) (take (l .i + 1) (sums (s .args .items .now))), f)
 
 same-length : tie.Need-same-length Inv-loop μ-loop
 same-length c = c .before .loop .inv .2
 
 returns : tie.Need-returns Inv-loop μ-loop
-returns c = let s = c .before .before .before .before in let l = c .before .loop in l .inv .3 ∙ ap (filedFirst (s .args .items .now) (s .args .buffer .now)) (let e : l .i ≡ length (s .args .items .now) = omega (arith, c .loop-test .left, l .inv .0) in e) ∙ filing.ends (s .args .items .now) (s .pre .0 .summable) (s .args .buffer .now) (λ k. c .before .before .slice-known .given k .fits) (s .pre .0 .room)
+returns c = let s = c .before .before .before .before in let l = c .before .loop in l .inv .3 ∙ ap (filedFirst (s .args .items .now) (s .args .buffer .now)) (let e : l .i ≡ length (s .args .items .now) = omega (arith, c .loop-test .left, l .inv .0) in e) ∙ listing.ends (suc (sumOf (s .args .items .now))) (length (s .args .items .now)) (sums (s .args .items .now)) (filing.fits (s .args .items .now) (s .pre .0 .summable)) (sums-law.length-sums 0 (s .args .items .now)) (s .args .buffer .now) (λ k. c .before .before .slice-known .given k .fits) (s .pre .0 .room)
 
 pub file-all-spec : {M : Type 1} → statement M
 file-all-spec = tie.close (tie.spec Inv-loop μ-loop loop-holds mul-sum shared-slice-read-sum add-sum file-requires add-i loop-less loop-again same-length returns)
