@@ -1,5 +1,5 @@
 -- The image of a list in order is accepted and holds that list, and an accepted image is the image of the list that it holds. Assumes nothing.
-use mathlib.Core.Path.{_≡_, refl, sym, _∙_}
+use mathlib.Core.Path.{_≡_, refl, sym, ap, _∙_}
 use mathlib.Core.List.{List, [], _++_, append-assoc}
 use mathlib.Core.Bool.{Bool, true, false, _&&_, cond}
 use Prim.Native.Nat.{ℕ, _*_, _^_, _≤_, _<_}
@@ -7,6 +7,7 @@ use native.Mathlib.Nat.{le-refl}
 use borrow.Author.Tests.{le-leb, lt-ltb, ltb-true, leb-true}
 use lib.Dec.{eqb, leb, ltb}
 use lib.ListN.{length, drop}
+use Rattle.errors.specs.Answer.{refused}
 use Rattle.broadword.specs.Fields.{flag}
 use Rattle.bit_words.specs.Vector.{wordsFor, numberWords}
 use Rattle.darray_positions.specs.Index.{indexWords}
@@ -18,6 +19,7 @@ use Rattle.darray.proofs.Matching.{same-refl, same-true}
 use Rattle.elias_fano_words.proofs.Decode.{times-of}
 use Rattle.broadword.proofs.Truth.{and-true, true-and}
 use Rattle.elias_fano.specs.Accept.{fit, universe, declared, pushed, ranked, times, accepted}
+use Rattle.elias_fano.specs.Ask.{Question, ask, asked, query}
 
 -- the settings and the list of a record
 pub record Fits (u n : ℕ) (T : List ℕ) : Type 0 where
@@ -104,3 +106,11 @@ module _ (u n : ℕ) (c : Bool) (T : List ℕ) where
         let I = image u n c T in
         (λ x. fit (image-universe x) (image-declared x) (image-times x) && same I (image (image-universe x) (image-declared x) (image-ranked x) (image-times x)))
         ∙ true-and (fit u n T) (same I I) (of-fits u n T f) (same-refl I)
+
+    -- what it holds is asked
+    pub image-asked : (q : Question) → asked (image u n c T) q ≡ ask u n c T q
+    image-asked q = λ x. ask (image-universe x) (image-declared x) (image-ranked x) (image-times x) q
+
+    pub image-query : (q : Question) → query (image u n c T) q ≡ ask u n c T q
+    unfolding query
+    image-query q = ap (λ (b : Bool). cond b (asked (image u n c T) q) (refused 7)) image-accepted ∙ image-asked q

@@ -17,7 +17,7 @@ use Rattle.elias_fano_words.specs.Sizes.{lowLen, highLen, startLen, sizesOf}
 use Rattle.elias_fano_words.specs.Times.{rising, lastFrom, lastOf, bitWords}
 use Rattle.elias_fano_words.specs.declared.sizes.Sizes.{Sizes}
 use Rattle.elias_fano_words.proofs.Decode.{length-high, length-words}
-use Rattle.elias_fano_words.proofs.Rising.{rising-first, rising-cons, rising-none, rising-lt}
+use Rattle.elias_fano_words.proofs.Rising.{rising-first, rising-cons, rising-none, rising-lt, lastOf-snoc}
 use Rattle.elias_fano.specs.Accept.{onesAt}
 use Rattle.elias_fano.specs.Finishing.{zerosOf, Short, planBy, Planned, Holding, Finishable, filedIn}
 use Rattle.elias_fano.specs.Made.{builder}
@@ -100,6 +100,10 @@ module _ (u n : ℕ) (T : List ℕ) (f : Fits u n T) (many : length T ≡ n) whe
 
       after : lastOf (take i T) ≤ getD T i 0
       after = last-le u 0 i T (f .rises) in-list
+
+      -- it is the last of those up to it
+      pub last-next : lastOf (take (suc i) T) ≡ getD T i 0
+      last-next = ap lastOf more ∙ lastOf-snoc (take i T) (getD T i 0)
 
       pub fileable : (x : ℕ) → x ≡ lastOf (take i T) → (t : ℕ) → t ≡ getD T i 0 → (s : Sizes) → s ≡ sizesOf u n → (k : ℕ) → k ≡ length w → Fileable (builder u n i x) t k s
       fileable x ex t et s es k ek = record {

@@ -11,9 +11,8 @@ use lib.Dec.{eqb, leb, ltb}
 use lib.ListN.{length, getD, take, drop}
 use lib.Seq.{take-append-seam}
 use Rattle.errors.specs.Answer.{Answer, value, none, done, refused, Outcome, leaves, passing}
-use Rattle.elias_fano.specs.Accept.{universe, declared, ranked, times, accepted}
 use Rattle.elias_fano.specs.Ask.{Question, Delta, Len, nth, gap, ask, query}
-use Rattle.elias_fano.proofs.Images.{image-accepted, image-times}
+use Rattle.elias_fano.proofs.Images.{image-query}
 use Rattle.prefix_summed_elias_fano.specs.Building.{Summable}
 use Rattle.prefix_summed_elias_fano.specs.Sums.{sum, sums, sumsImage, sliceTest, fromSliceOf, accessOf, lenOf, Restored, ReadsBack}
 use Rattle.prefix_summed_elias_fano.proofs.Filing as filing
@@ -53,17 +52,9 @@ module _ (A : List ℕ) (ok : Summable A) where
   abbrev I : List ℕ
   I = sumsImage A
 
-  ok-image : accepted I ≡ true
+  query-is : (q : Question) → query I q ≡ ask (suc (sum A)) (length A) false (sums A) q
   unfolding sumsImage
-  ok-image = image-accepted (suc (sum A)) (length A) false (sums A) (filing.fits A ok)
-
-  times-are : times I ≡ sums A
-  unfolding sumsImage
-  times-are = image-times (suc (sum A)) (length A) false (sums A) (filing.fits A ok)
-
-  query-is : (q : Question) → query I q ≡ ask (universe I) (declared I) (ranked I) (sums A) q
-  unfolding query
-  query-is q = ap (λ (b : Bool). cond b (ask (universe I) (declared I) (ranked I) (times I) q) (refused 7)) ok-image ∙ ap (λ (T : List ℕ). ask (universe I) (declared I) (ranked I) T q) times-are
+  query-is q = image-query (suc (sum A)) (length A) false (sums A) (filing.fits A ok) q
 
   some-words : eqb (length I) 0 ≡ false
   some-words = ne-eqb (length I) 0 (λ e. let a = filing.six-le A ok in omega arith)

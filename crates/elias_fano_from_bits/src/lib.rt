@@ -1,0 +1,3 @@
+// The record of a bit vector: its values are the places of the ones.
+pub mod build;
+pub mod measure;
