@@ -1,4 +1,4 @@
-//! Links the port's static libraries, which `rt staticlib bench_exports` and `rt staticlib ffi` write.
+//! Links the port's static libraries, which `rt staticlib bench_exports` and `rt staticlib ffi` write, and the second peer where bench/run built it.
 
 fn main() {
     let here = std::env::var("CARGO_MANIFEST_DIR").expect("cargo sets it");
@@ -7,5 +7,12 @@ fn main() {
     for library in ["bench_exports", "ffi"] {
         println!("cargo:rerun-if-changed={libraries}/lib{library}.a");
         println!("cargo:rustc-link-lib=static={library}");
+    }
+    if std::env::var("CARGO_FEATURE_SDSL").is_ok() {
+        println!("cargo:rerun-if-changed={here}/target/sdsl/libsdsl_side.a");
+        println!("cargo:rustc-link-search=native={here}/target/sdsl");
+        for library in ["static=sdsl_side", "dylib=sdsl", "dylib=stdc++"] {
+            println!("cargo:rustc-link-lib={library}");
+        }
     }
 }

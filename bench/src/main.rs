@@ -1,9 +1,12 @@
 //! Times the port beside the crate sucds on the same words, compares what they answer, and prints a table.
 
+mod bulk;
 mod port;
 mod questions;
 mod record;
 mod rust;
+#[cfg(feature = "sdsl")]
+mod sdsl;
 mod table;
 
 use std::hint::black_box;
@@ -206,22 +209,48 @@ fn round(table: &mut Table) {
     }
 }
 
+const SIZES: [usize; 4] = [1000, 100_000, 1_000_000, 16_777_216];
+
 fn main() {
-    let mut table = Table::default();
+    let mut table = Table::new("Rust");
     let random = &mut Random(SEED);
-    let records: Vec<Record> = [1000, 100_000, 1_000_000, 16_777_216]
+    let records: Vec<Record> = SIZES
         .into_iter()
         .filter_map(|n| Record::new(n, random))
         .collect();
     let equal = Equal::new();
+    let bits: Vec<bulk::Bits> = SIZES
+        .into_iter()
+        .filter_map(|n| bulk::Bits::new(n, random))
+        .collect();
+    let sums: Vec<bulk::Sums> = SIZES
+        .into_iter()
+        .filter_map(|n| bulk::Sums::new(n, random))
+        .collect();
     for _ in 0..ROUNDS {
         round(&mut table);
-        for record in &records {
-            record.rows(&mut table);
-        }
-        if let Some(equal) = &equal {
-            equal.row(&mut table);
-        }
+        records.iter().for_each(|r| r.rows(&mut table));
+        equal.iter().for_each(|e| e.row(&mut table));
+        bits.iter().for_each(|b| b.rows(&mut table));
+        sums.iter().for_each(|s| s.rows(&mut table));
     }
     table.print();
+    second_peer(random);
 }
+
+#[cfg(feature = "sdsl")]
+fn second_peer(random: &mut Random) {
+    let mut table = Table::new("sdsl");
+    let lists: Vec<sdsl::Strict> = SIZES
+        .into_iter()
+        .filter_map(|n| sdsl::Strict::new(n, random))
+        .collect();
+    for _ in 0..ROUNDS {
+        lists.iter().for_each(|l| l.rows(&mut table));
+    }
+    println!();
+    table.print();
+}
+
+#[cfg(not(feature = "sdsl"))]
+fn second_peer(_: &mut Random) {}

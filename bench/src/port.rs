@@ -92,6 +92,27 @@ mod c {
             out: *mut u64,
             m: usize,
         ) -> Answer;
+        pub fn ef_from_bits(
+            words: *const u64,
+            n: usize,
+            len: usize,
+            rank: bool,
+            buffer: *mut u64,
+            m: usize,
+        ) -> Answer;
+        pub fn ef_sums_from_slice(
+            items: *const u64,
+            n: usize,
+            buffer: *mut u64,
+            m: usize,
+        ) -> Answer;
+        pub fn ef_sums_read(
+            image: *const u64,
+            n: usize,
+            k: usize,
+            out: *mut u64,
+            m: usize,
+        ) -> Answer;
         pub fn ef_selects(
             i: *const u64,
             n: usize,
@@ -269,6 +290,28 @@ pub fn record_read(image: &[u64], out: &mut [u64]) -> u64 {
         unsafe { c::ef_read_from(image.as_ptr(), image.len(), 0, out.as_mut_ptr(), out.len()) };
     read.get().expect("a number")
 }
+
+/// How many words the image has.
+pub fn from_bits(words: &[u64], len: usize, rank: bool, buffer: &mut [u64]) -> usize {
+    let (at, m) = (buffer.as_mut_ptr(), buffer.len());
+    let answer = unsafe { c::ef_from_bits(words.as_ptr(), words.len(), len, rank, at, m) };
+    answer.get().expect("a length") as usize
+}
+
+/// How many words the image has.
+pub fn sums_from_slice(items: &[u64], buffer: &mut [u64]) -> usize {
+    let (at, m) = (buffer.as_mut_ptr(), buffer.len());
+    let answer = unsafe { c::ef_sums_from_slice(items.as_ptr(), items.len(), at, m) };
+    answer.get().expect("a length") as usize
+}
+
+/// How many items from the first on were written.
+pub fn sums_read(image: &[u64], out: &mut [u64]) -> u64 {
+    let (at, m) = (out.as_mut_ptr(), out.len());
+    let answer = unsafe { c::ef_sums_read(image.as_ptr(), image.len(), 0, at, m) };
+    answer.get().expect("a number")
+}
+
 
 /// Many questions at once.
 pub type Many =

@@ -99,8 +99,8 @@ impl Row<'_> {
         if !is_asked(&self.what) {
             return;
         }
-        let few = &args[..items.rust];
-        let mut theirs = vec![None; items.rust];
+        let few = &args[..items.peer];
+        let mut theirs = vec![None; items.peer];
         let mut ours = vec![Answer::default(); args.len()];
         rust::record_ask(&one, few, &mut theirs);
         port::record_ask(many, self.image, args, &mut ours);
@@ -170,7 +170,7 @@ impl Equal {
             image: &self.image,
         };
         let items = Items {
-            rust: 10,
+            peer: 10,
             port: 100_000,
         };
         let rank = |v| self.ef.rank(v).map(|k| k as u64);

@@ -3,7 +3,7 @@
 use std::hint::black_box;
 use std::time::Instant;
 
-/// Repeats of a row in a round, after the first. A repeat runs the Rust, then the port.
+/// Repeats of a row in a round, after the first. A repeat runs the peer, then the port.
 const REPEATS: usize = 30;
 
 /// What a repeat takes at least, in nanoseconds: short calls are run several times.
@@ -16,29 +16,30 @@ struct Row {
     what: String,
     items: Items,
     target: Option<f64>,
-    rust: f64,
+    peer: f64,
     port: f64,
     port_before: f64,
 }
 
-/// How many items a call of the Rust handles, and how many one of the port: the same but where one side is too slow for it.
+/// How many items a call of the peer handles, and how many one of the port: the same but where one side is too slow for it.
 #[derive(Clone, Copy)]
 pub struct Items {
-    pub rust: usize,
+    pub peer: usize,
     pub port: usize,
 }
 
 impl From<usize> for Items {
     fn from(items: usize) -> Self {
         Self {
-            rust: items,
+            peer: items,
             port: items,
         }
     }
 }
 
-#[derive(Default)]
+/// The port beside a peer.
 pub struct Table {
+    peer: &'static str,
     rows: Vec<Row>,
 }
 
@@ -77,7 +78,11 @@ fn timed_with<A, T>(
 }
 
 impl Table {
-    /// Keeps the best of the Rust, of the port, and of what the port does before, which is taken off its time.
+    pub fn new(peer: &'static str) -> Self {
+        Self { peer, rows: vec![] }
+    }
+
+    /// Keeps the best of the peer, of the port, and of what the port does before, which is taken off its time.
     fn keep(&mut self, what: &str, items: Items, target: Option<f64>, mut sides: [Timed; 3]) {
         if !is_asked(what) {
             return;
@@ -90,10 +95,10 @@ impl Table {
                 *best = best.min(side(calls as usize));
             }
         }
-        let [rust, port, port_before] = best;
+        let [peer, port, port_before] = best;
         match self.rows.iter_mut().find(|row| row.what == what) {
             Some(row) => {
-                row.rust = row.rust.min(rust);
+                row.peer = row.peer.min(peer);
                 row.port = row.port.min(port);
                 row.port_before = row.port_before.min(port_before);
             }
@@ -101,7 +106,7 @@ impl Table {
                 what: what.to_string(),
                 items,
                 target,
-                rust,
+                peer,
                 port,
                 port_before,
             }),
@@ -114,14 +119,14 @@ impl Table {
         what: &str,
         items: usize,
         target: Option<f64>,
-        rust: impl FnMut() -> T,
+        peer: impl FnMut() -> T,
         port: impl FnMut() -> U,
     ) {
         self.keep(
             what,
             items.into(),
             target,
-            [&mut timed(rust), &mut timed(port), &mut |_| 0.0],
+            [&mut timed(peer), &mut timed(port), &mut |_| 0.0],
         );
     }
 
@@ -131,7 +136,7 @@ impl Table {
         what: &str,
         items: usize,
         target: Option<f64>,
-        rust: (impl FnMut() -> A, impl FnMut(A) -> T),
+        peer: (impl FnMut() -> A, impl FnMut(A) -> T),
         port: (impl FnMut() -> B, impl FnMut(B) -> U),
     ) {
         self.keep(
@@ -139,7 +144,7 @@ impl Table {
             items.into(),
             target,
             [
-                &mut timed_with(rust.0, rust.1),
+                &mut timed_with(peer.0, peer.1),
                 &mut timed_with(port.0, port.1),
                 &mut |_| 0.0,
             ],
@@ -152,11 +157,11 @@ impl Table {
         what: &str,
         items: usize,
         target: Option<f64>,
-        rust: impl Fn() -> u64,
+        peer: impl Fn() -> u64,
         port: impl Fn() -> u64,
     ) {
-        assert_eq!(rust(), port(), "{what}");
-        self.row(what, items, target, rust, port);
+        assert_eq!(peer(), port(), "{what}");
+        self.row(what, items, target, peer, port);
     }
 
     /// Times a function of the port that first does something else: what that takes alone is taken off.
@@ -165,7 +170,7 @@ impl Table {
         what: &str,
         items: impl Into<Items>,
         target: Option<f64>,
-        rust: impl FnMut() -> T,
+        peer: impl FnMut() -> T,
         port: impl FnMut() -> U,
         port_before: impl FnMut() -> U,
     ) {
@@ -173,24 +178,25 @@ impl Table {
             what,
             items.into(),
             target,
-            [&mut timed(rust), &mut timed(port), &mut timed(port_before)],
+            [&mut timed(peer), &mut timed(port), &mut timed(port_before)],
         );
     }
 
     pub fn print(&self) {
-        println!("| what | Rust, ns | port, ns | port / Rust | target | |");
+        let peer = self.peer;
+        println!("| what | {peer}, ns | port, ns | port / {peer} | target | |");
         println!("|---|---:|---:|---:|---:|---|");
         for row in &self.rows {
-            let rust = row.rust / row.items.rust as f64;
+            let peer = row.peer / row.items.peer as f64;
             let port = (row.port - row.port_before) / row.items.port as f64;
-            let ratio = port / rust;
+            let ratio = port / peer;
             let digits = if ratio < 0.01 { 5 } else { 2 };
             let (target, verdict) = match row.target {
                 Some(t) => (format!("{t:?}"), if ratio <= t { "met" } else { "missed" }),
                 None => (String::new(), ""),
             };
             println!(
-                "| {} | {rust:.2} | {port:.2} | {ratio:.digits$} | {target} | {verdict} |",
+                "| {} | {peer:.2} | {port:.2} | {ratio:.digits$} | {target} | {verdict} |",
                 row.what
             );
         }

@@ -1,0 +1,150 @@
+//! The rows of whole lists: a record made from bits, and items by their prefix sums.
+
+use std::hint::black_box;
+
+use sucds::int_vectors::{Access, PrefixSummedEliasFano};
+use sucds::mii_sequences::EliasFano;
+
+use crate::port::{self, Answer};
+use crate::record::{at_a_million, name};
+use crate::table::{is_asked, Table};
+use crate::{rust, Random};
+
+/// One bit in so many is set.
+const RARITY: usize = 16;
+
+/// The largest item.
+const LARGEST: usize = 1800;
+
+/// How often the items are asked for.
+const QUESTIONS: usize = 1_000_000;
+
+const FROM_BITS: &str = "from bits with rank";
+
+/// Bits with so many ones, or about.
+pub struct Bits {
+    words: Vec<u64>,
+    len: usize,
+    ones: usize,
+    n: usize,
+    image: Vec<u64>,
+}
+
+fn rust_from_bits(words: &[u64], len: usize) -> EliasFano {
+    let bits = (0..len).map(|i| words[i / 64] >> (i % 64) & 1 == 1);
+    EliasFano::from_bits(bits)
+        .expect("some bits are set")
+        .enable_rank()
+}
+
+impl Bits {
+    /// None where the row is not asked for. What both sides make is compared, word for word.
+    pub fn new(n: usize, random: &mut Random) -> Option<Self> {
+        if !is_asked(&name(FROM_BITS, n)) {
+            return None;
+        }
+        let len = n * RARITY;
+        let mut words = vec![0u64; len.div_ceil(64)];
+        let mut ones = 0;
+        for i in 0..len {
+            if ones < n && random.below(RARITY) == 0 {
+                words[i / 64] |= 1 << (i % 64);
+                ones += 1;
+            }
+        }
+        let image = rust::image_words(&rust_from_bits(&words, len), ones);
+        let mut ours = vec![u64::MAX; image.len()];
+        assert_eq!(port::from_bits(&words, len, true, &mut ours), image.len());
+        assert_eq!(ours, image, "from bits, {n}");
+        Some(Self {
+            words,
+            len,
+            ones,
+            n,
+            image,
+        })
+    }
+
+    pub fn rows(&self, table: &mut Table) {
+        let mut buffer = vec![0; self.image.len()];
+        table.row(
+            &name(FROM_BITS, self.n),
+            self.ones,
+            at_a_million(self.n, 0.15),
+            || rust_from_bits(black_box(&self.words), self.len),
+            || port::from_bits(black_box(&self.words), self.len, true, &mut buffer),
+        );
+    }
+}
+
+const SUMS: [&str; 3] = ["prefix sums build", "prefix sums access", "prefix sums read"];
+
+/// Items, and both sides' record of their prefix sums.
+pub struct Sums {
+    items: Vec<u64>,
+    sums: PrefixSummedEliasFano,
+    image: Vec<u64>,
+    places: Vec<u64>,
+}
+
+impl Sums {
+    /// None where no row is asked for.
+    pub fn new(n: usize, random: &mut Random) -> Option<Self> {
+        if !SUMS.iter().any(|row| is_asked(&name(row, n))) {
+            return None;
+        }
+        let items: Vec<u64> = (0..n).map(|_| random.below(LARGEST + 1) as u64).collect();
+        let sums = PrefixSummedEliasFano::from_slice(&items).expect("the sum is small");
+        let mut image = vec![0; 4 * n + 64];
+        let len = port::sums_from_slice(&items, &mut image);
+        image.truncate(len);
+        let mut read = vec![0; n];
+        assert_eq!(port::sums_read(&image, &mut read), n as u64);
+        assert_eq!(read, items, "prefix sums, {n}");
+        let places = random.places(QUESTIONS, n);
+        let places = places.into_iter().map(|p| p as u64).collect();
+        Some(Self {
+            items,
+            sums,
+            image,
+            places,
+        })
+    }
+
+    pub fn rows(&self, table: &mut Table) {
+        let n = self.items.len();
+        let [build, access, read] = SUMS.map(|row| name(row, n));
+        let mut buffer = vec![0; self.image.len()];
+        table.row(
+            &build,
+            n,
+            at_a_million(n, 0.3),
+            || PrefixSummedEliasFano::from_slice(black_box(&self.items)),
+            || port::sums_from_slice(black_box(&self.items), &mut buffer),
+        );
+        // the port answers by gaps, of an image that is opened once
+        let mut theirs = vec![None; self.places.len()];
+        let mut ours = vec![Answer::default(); self.places.len()];
+        table.row_after(
+            &access,
+            self.places.len(),
+            None,
+            || rust::record_ask(|p| self.sums.access(p as usize), &self.places, &mut theirs),
+            || port::record_ask(port::DELTAS, black_box(&self.image), &self.places, &mut ours),
+            || port::record_ask(port::DELTAS, black_box(&self.image), &[], &mut []),
+        );
+        let (mut walked, mut written) = (vec![0; n], vec![0; n]);
+        table.row_after(
+            &read,
+            n,
+            None,
+            || {
+                for (out, x) in walked.iter_mut().zip(self.sums.iter()) {
+                    *out = x;
+                }
+            },
+            || drop(port::sums_read(black_box(&self.image), &mut written)),
+            || drop(port::sums_read(black_box(&self.image), &mut [])),
+        );
+    }
+}
