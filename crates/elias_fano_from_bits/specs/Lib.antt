@@ -1,2 +1,3 @@
 pub mod Building
 pub mod FromBits
+pub mod Rows
