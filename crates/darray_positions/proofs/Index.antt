@@ -9,6 +9,7 @@ use native.Mathlib.Decide.{decLt, le-ind}
 use native.Mathlib.Omega.{arith}
 use borrow.Author.Tests.{lt-ltb, le-ltb, leb-false}
 use lib.Bits.{bitAnd, and-mask}
+use lib.Dec.{leb}
 use lib.ListN.{length, getD, length-append, List·getD-append}
 use lib.Seq.{getD-append-add}
 use Rattle.broadword.specs.Bits.{count}
@@ -64,6 +65,10 @@ module _ (P : List ℕ) where
   unfolding size
   size-in j i h = omega arith
 
+  pub before-none : before P 0 ≡ 0
+  unfolding before count
+  before-none = refl
+
   pub before-next : (j : ℕ) → before P (suc j) ≡ before P j + spill P j
   unfolding before count
   before-next j = refl
@@ -79,6 +84,13 @@ module _ (P : List ℕ) where
       by : (w : Bool) → cond w (size P j) 0 ≤ size P j
       by true = le-refl (size P j)
       by false = zero-le
+
+  -- what the block j spills, by its size and its ends
+  pub spill-by : (j z first last : ℕ) → z ≡ min 1024 (length P - 1024 * j) → first ≡ pos P (1024 * j) → last ≡ pos P (1024 * j + (z - 1)) → cond (leb 65536 (last - first)) z 0 ≡ spill P j
+  unfolding spill wide size
+  spill-by j z first last ez ef el =
+      ap₂ (λ (x y : ℕ). cond (leb 65536 (y - x)) z 0) ef el
+      ∙ ap (λ (m : ℕ). cond (leb 65536 (pos P (1024 * j + (m - 1)) - pos P (1024 * j))) m 0) ez
 
   pub spill-wide : (j : ℕ) → wide P j ≡ true → spill P j ≡ size P j
   unfolding spill

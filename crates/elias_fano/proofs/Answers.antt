@@ -4,7 +4,7 @@ use mathlib.Core.List.{List}
 use mathlib.Core.Bool.{Bool, true, false, cond}
 use Prim.Native.Nat.{ℕ}
 use native.Mathlib.Omega.{arith}
-use Rattle.errors.specs.Answer.{Answer, refused}
+use Rattle.errors.specs.Answer.{Answer, value, refused}
 use Rattle.errors.specs.Refusal.{numberOf}
 use Rattle.errors.specs.declared.Refusal.{Refusal}
 use Rattle.elias_fano.specs.declared.image.Header.{Header}
@@ -15,6 +15,14 @@ use Rattle.elias_fano.specs.declared.image.Parts.{Parts}
 use Rattle.elias_fano.specs.Accept.{accepted, partsOf, parts, unopened, ofOpened, openOf}
 use Rattle.elias_fano.specs.Ask.{Question, asked, query}
 use Rattle.elias_fano.specs.Opening.{Headed, Heads}
+
+-- ---- an answer has one case
+
+pub value-inj : (a b : ℕ) → value a ≡ value b → a ≡ b
+value-inj a b e = cc
+
+pub refused-value : (a b : ℕ) → refused a ≡ value b → ⊥
+refused-value a b e = let z : _≡_ {A = ℕ} 0 1 = cc in omega arith
 
 module _ (i : List ℕ) where
   -- ---- a header

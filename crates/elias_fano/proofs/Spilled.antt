@@ -1,5 +1,5 @@
 -- The index over the ones of the high bits of a list of times, from the times: where its positions stand, and what its blocks spill. Assumes nothing.
-use mathlib.Core.Path.{_≡_, sym, ap, ap₂, _∙_, subst}
+use mathlib.Core.Path.{_≡_, sym, ap, subst}
 use mathlib.Core.List.{List}
 use mathlib.Core.Bool.{true, cond}
 use Prim.Native.Nat.{ℕ, _+_, _-_, _*_, _≤_, _<_, min}
@@ -9,7 +9,8 @@ use lib.ListN.{length}
 use Rattle.broadword.proofs.Find.{selected}
 use Rattle.bit_words.specs.Vector.{bitAt, bitOver}
 use Rattle.bit_words.proofs.Runs.{bitOver-le}
-use Rattle.darray_positions.specs.Index.{pos, size, wide, spill}
+use Rattle.darray_positions.specs.Index.{pos, spill}
+use Rattle.darray_positions.proofs.Index.{spill-by}
 use Rattle.darray_positions.proofs.Positions.{place-is}
 use Rattle.elias_fano_words.specs.Image.{highWords, highPositions}
 use Rattle.elias_fano_words.specs.Sizes.{lowLen, highLen}
@@ -37,10 +38,6 @@ module _ (u n : ℕ) (T : List ℕ) (r : rising u 0 T ≡ true) (few : length T 
   -- the block j, by the places of its first and its last time
   pub spill-high : (j : ℕ) → 1024 * j < length T
       → cond (leb 65536 (placeOf (lowLen u n) T (1024 * j + (min 1024 (length T - 1024 * j) - 1)) - placeOf (lowLen u n) T (1024 * j))) (min 1024 (length T - 1024 * j)) 0 ≡ spill P j
-  unfolding spill wide size
   spill-high j h =
-      let z : min 1024 (length T - 1024 * j) ≡ min 1024 (length P - 1024 * j) = ap (λ (m : ℕ). min 1024 (m - 1024 * j)) (sym many) in
-      let a = pos-high (1024 * j) h in
-      let b = pos-high (1024 * j + (min 1024 (length T - 1024 * j) - 1)) (omega arith) in
-      ap₂ (λ (x y : ℕ). cond (leb 65536 (x - y)) (min 1024 (length T - 1024 * j)) 0) (sym b) (sym a)
-      ∙ ap (λ (m : ℕ). cond (leb 65536 (pos P (1024 * j + (m - 1)) - pos P (1024 * j))) m 0) z
+      spill-by P j (min 1024 (length T - 1024 * j)) (placeOf (lowLen u n) T (1024 * j)) (placeOf (lowLen u n) T (1024 * j + (min 1024 (length T - 1024 * j) - 1)))
+      (ap (λ (m : ℕ). min 1024 (m - 1024 * j)) (sym many)) (sym (pos-high (1024 * j) h)) (sym (pos-high (1024 * j + (min 1024 (length T - 1024 * j) - 1)) (omega arith)))

@@ -11,16 +11,11 @@ use lib.Seq.{take-append-seam}
 use Rattle.errors.specs.Answer.{Answer, value, done, refused, Outcome, leaves, passing}
 use Rattle.bit_words.specs.Vector.{invalid}
 use Rattle.elias_fano.specs.Ask.{Question, ask, query}
+use Rattle.elias_fano.proofs.Answers.{value-inj, refused-value}
 use Rattle.elias_fano.proofs.Images.{image-query}
 use Rattle.elias_fano_from_bits.specs.Building.{Countable}
 use Rattle.elias_fano_from_bits.specs.FromBits.{onesOf, bitsImage, bitsTest, fromBitsOf, AsksBits}
 use Rattle.elias_fano_from_bits.proofs.Ones as ones
-
-value-inj : (a b : ℕ) → value a ≡ value b → a ≡ b
-value-inj a b e = cc
-
-not-value : (a b : ℕ) → refused a ≡ value b → ⊥
-not-value a b e = let z : _≡_ {A = ℕ} 0 1 = cc in omega arith
 
 module _ (ws : List ℕ) (len : ℕ) (c : Bool) (w : List ℕ) (k : ℕ) (x : List ℕ) (small : len < 2 ^ 64) where
   abbrev N : ℕ
@@ -44,11 +39,11 @@ module _ (ws : List ℕ) (len : ℕ) (c : Bool) (w : List ℕ) (k : ℕ) (x : Li
       ∙ image-query len N c (onesOf ws len) (ones.fits ws len ok) q
 
   by-tests : (a b d e f : Bool) → invalid ws len ≡ a → eqb N 0 ≡ d → ltb 16777216 N ≡ e → passing (test a b d e f) w wrote ≡ leaves (value k) x → Asks
-  by-tests true b d e f ea ed ee g = absurd (not-value 13 k (ap (λ (o : Outcome). o .answer) g))
-  by-tests false true d e f ea ed ee g = absurd (not-value 10 k (ap (λ (o : Outcome). o .answer) g))
-  by-tests false false true e f ea ed ee g = absurd (not-value 11 k (ap (λ (o : Outcome). o .answer) g))
-  by-tests false false false true f ea ed ee g = absurd (not-value 2 k (ap (λ (o : Outcome). o .answer) g))
-  by-tests false false false false true ea ed ee g = absurd (not-value 3 k (ap (λ (o : Outcome). o .answer) g))
+  by-tests true b d e f ea ed ee g = absurd (refused-value 13 k (ap (λ (o : Outcome). o .answer) g))
+  by-tests false true d e f ea ed ee g = absurd (refused-value 10 k (ap (λ (o : Outcome). o .answer) g))
+  by-tests false false true e f ea ed ee g = absurd (refused-value 11 k (ap (λ (o : Outcome). o .answer) g))
+  by-tests false false false true f ea ed ee g = absurd (refused-value 2 k (ap (λ (o : Outcome). o .answer) g))
+  by-tests false false false false true ea ed ee g = absurd (refused-value 3 k (ap (λ (o : Outcome). o .answer) g))
   by-tests false false false false false ea ed ee g =
       let h = eqb-false N 0 ed in
       asks (record { valid = ea; small = small; some = omega arith; most = ltb-false _ _ ee }) g

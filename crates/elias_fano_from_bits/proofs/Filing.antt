@@ -2,21 +2,20 @@
 use mathlib.Core.Path.{_≡_, refl, sym, ap, ap₂, _∙_, subst⁻¹}
 use mathlib.Core.List.{List, _++_}
 use mathlib.Core.Bool.{Bool, true, false}
-use Prim.Native.Nat.{ℕ, suc, _+_, _-_, _*_, _/_, _^_, _≤_, _<_}
+use Prim.Native.Nat.{ℕ, suc, _-_, _^_, _≤_, _<_}
 use native.Mathlib.Omega.{arith}
 use lib.ListN.{length, getD, take, drop}
 use Rattle.bit_words.proofs.Runs.{Fit}
 use Rattle.darray.specs.Sizes.{Sized}
 use Rattle.darray.specs.declared.inner.Sizes.{Sizes as IndexSizes}
-use Rattle.elias_fano_words.specs.Image.{highWords, image}
-use Rattle.elias_fano_words.specs.Sizes.{lowLen, highLen, startLen, sizesOf}
+use Rattle.elias_fano_words.specs.Image.{highWords}
+use Rattle.elias_fano_words.specs.Sizes.{highLen, startLen, sizesOf}
 use Rattle.elias_fano_words.specs.Times.{lastOf}
 use Rattle.elias_fano_words.specs.declared.sizes.Sizes.{Sizes}
 use Rattle.elias_fano.specs.Finishing.{zerosOf, Short, planBy, Finishable, filedIn}
 use Rattle.elias_fano.specs.Made.{builder}
 use Rattle.elias_fano.specs.Steps.{filed, finishedWords}
 use Rattle.elias_fano.specs.Testing.{Fileable}
-use Rattle.elias_fano.specs.declared.builder.Builder.{Builder}
 use Rattle.elias_fano.specs.declared.finish.Plan.{Plan}
 use Rattle.elias_fano.proofs.Listing as listing
 use Rattle.elias_fano_from_bits.specs.Building.{Countable, lowOf, highOf, Laid, Sizable, filedOnes}

@@ -1,5 +1,5 @@
 -- The positions of the high bits of the record of a bit vector, by its ones: where they stand, and what a block of them spills. Assumes nothing.
-use mathlib.Core.Path.{_≡_, refl, sym, ap, ap₂, _∙_, subst}
+use mathlib.Core.Path.{_≡_, sym, ap, ap₂, _∙_, subst}
 use mathlib.Core.List.{List}
 use mathlib.Core.Bool.{Bool, true, false, cond}
 use Prim.Native.Nat.{ℕ, suc, _+_, _-_, _*_, _/_, _^_, _≤_, _<_, min}
@@ -11,11 +11,11 @@ use lib.Pow.{shr-mono}
 use Rattle.broadword.specs.Bits.{count}
 use Rattle.bit_words.specs.Vector.{bitOver}
 use Rattle.bit_words.proofs.Runs.{bitOver-le}
-use Rattle.darray_positions.specs.Index.{pos, size, wide, spill, before}
+use Rattle.darray_positions.specs.Index.{pos, before}
 use Rattle.darray_positions.proofs.Index as index
 use Rattle.darray_positions.proofs.Positions as position
 use Rattle.elias_fano_words.specs.Image.{highWords}
-use Rattle.elias_fano_words.specs.Sizes.{lowLen, highLen}
+use Rattle.elias_fano_words.specs.Sizes.{highLen}
 use Rattle.elias_fano_words.proofs.Bounds as bounds
 use Rattle.elias_fano.proofs.Parts as parts
 use Rattle.elias_fano.proofs.Spilled as spilled
@@ -74,20 +74,7 @@ module _ (ws : List ℕ) (len : ℕ) (ok : Countable ws len) where
 
 -- ---- blocks
 
-pub before-none : (P : List ℕ) → before P 0 ≡ 0
-unfolding before count
-before-none P = refl
-
 -- a block by its ends: what it spills is added
-module _ (P : List ℕ) (j : ℕ) (h : 1024 * j < length P) (z : ℕ) (ez : z ≡ min 1024 (length P - 1024 * j)) (first last : ℕ) (ef : first ≡ pos P (1024 * j)) (el : last ≡ pos P (1024 * j + (z - 1))) where
-  spill-is : cond (leb 65536 (last - first)) z 0 ≡ spill P j
-  unfolding spill wide size
-  spill-is =
-      ap₂ (λ (x y : ℕ). cond (leb 65536 (y - x)) z 0) ef el
-      ∙ ap (λ (m : ℕ). cond (leb 65536 (pos P (1024 * j + (m - 1)) - pos P (1024 * j))) m 0) ez
-
-  pub next-before : (o s : ℕ) → o ≡ before P j → s ≡ cond (leb 65536 (last - first)) z 0 → o + s ≡ before P (suc j)
-  next-before o s eo es = ap₂ (λ (x y : ℕ). x + y) eo (es ∙ spill-is) ∙ sym (index.before-next P j)
-
-  pub spill-le : before P (suc j) ≤ length P
-  spill-le = index.before-le P (suc j)
+pub next-before : (P : List ℕ) (j z first last : ℕ) → z ≡ min 1024 (length P - 1024 * j) → first ≡ pos P (1024 * j) → last ≡ pos P (1024 * j + (z - 1))
+    → (o s : ℕ) → o ≡ before P j → s ≡ cond (leb 65536 (last - first)) z 0 → o + s ≡ before P (suc j)
+next-before P j z first last ez ef el o s eo es = ap₂ (λ (x y : ℕ). x + y) eo (es ∙ index.spill-by P j z first last ez ef el) ∙ sym (index.before-next P j)

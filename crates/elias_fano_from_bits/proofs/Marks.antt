@@ -2,7 +2,7 @@
 use mathlib.Core.Path.{_≡_, refl, sym, ap, ap₂, _∙_, subst, subst⁻¹}
 use mathlib.Core.List.{List}
 use mathlib.Core.Bool.{Bool, true, false}
-use Prim.Native.Nat.{ℕ, suc, _+_, _-_, _*_, _/_, _%_, _^_, _≤_, _<_, min}
+use Prim.Native.Nat.{ℕ, _+_, _-_, _*_, _/_, _%_, _^_, _≤_, _<_, min}
 use native.Mathlib.Nat.{le-refl, le-trans, le-of-lt, mul-le-mul, div-le-self}
 use native.Mathlib.Omega.{arith}
 use lib.ListN.{length, getD}
@@ -16,8 +16,6 @@ use Rattle.bit_words.specs.Inner.{Findable}
 use Rattle.bit_words.specs.Vector.{wordsFor, bitOver}
 use Rattle.bit_words.proofs.Runs.{bitOver-le}
 use Rattle.bit_words.proofs.Valid.{valid}
-use Rattle.darray_positions.specs.Index.{pos}
-use Rattle.darray_positions.proofs.Counts.{count-few}
 use Rattle.darray_positions.proofs.Positions as position
 use Rattle.elias_fano_queries.proofs.Upper as upper
 use Rattle.elias_fano_from_bits.specs.Building.{lowOf, Marked, Upto, Seekable, Seen}
@@ -46,9 +44,6 @@ quotient-le len l = div-le-self len (2 ^ l)
 -- ---- a mark moved on
 
 module _ (ws : List ℕ) (len : ℕ) (m : Mark) (a : Marked ws len m) (to : ℕ) (h : m .place ≤ to) (g : to ≤ len) (t : ℕ) (et : count (bitOver true ws) (m .place / 64 * 64) + t ≡ count (bitOver true ws) (m .place)) where
-  pub tail-le : t ≤ m .ones
-  tail-le = omega (arith, a .counted)
-
   module _ (w : ℕ) (ew : count (bitOver true ws) (m .place / 64 * 64) + w ≡ count (bitOver true ws) (to / 64 * 64)) where
     pub whole-is : m .ones - t + w ≡ count (bitOver true ws) (to / 64 * 64)
     whole-is = omega (arith, a .counted)

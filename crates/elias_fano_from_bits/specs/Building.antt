@@ -8,7 +8,6 @@ use lib.ListN.{length, getD, drop, replicate}
 use Rattle.errors.specs.Answer.{refused}
 use Rattle.errors.specs.Refusal.{numberOf}
 use Rattle.broadword.specs.Bits.{count}
-use Rattle.broadword.specs.Places.{SelectInByte}
 use Rattle.bit_words.specs.Vector.{bitOver, invalid}
 use Rattle.bit_vectors.specs.Walk.{Walking}
 use Rattle.bit_vectors.specs.declared.unary.Unary.{Unary}

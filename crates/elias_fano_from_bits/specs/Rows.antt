@@ -1,6 +1,6 @@
 -- Document 01's examples of refusals 10, 11 and 13, and a record of word 11, length 4, as rows of one table, and the theorem that covers it. Assumes nothing.
 use mathlib.Core.Path.{_≡_, refl}
-use mathlib.Core.List.{List, [], _∷_, _++_, map}
+use mathlib.Core.List.{List, [], _∷_, map}
 use mathlib.Core.Bool.{true, false}
 use Prim.Native.Nat.{ℕ}
 use lib.ListN.{replicate}

@@ -4,7 +4,7 @@
 // first word is written.
 ghost use mathlib.Core.Path.{_≡_};
 ghost use mathlib.Core.List.{_++_};
-ghost use Prim.Native.Nat.{_≤_, _<_};
+ghost use Prim.Native.Nat.{_<_};
 ghost use lib.ListN.{length, drop};
 ghost use Rattle.errors.specs.Answer.{leaves};
 ghost use Rattle.broadword.specs.Places.{SelectInByte, Debruijn64};

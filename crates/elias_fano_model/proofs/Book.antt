@@ -20,6 +20,7 @@ use Rattle.elias_fano.specs.declared.builder.Builder.{Builder}
 use Rattle.elias_fano.specs.Accept.{accepted}
 use Rattle.elias_fano.specs.Made.{Made, made, builder}
 use Rattle.elias_fano.specs.Steps.{newOf, sound, timeTest, pushTest, filed, pushOf, intact, imageOf, imageTest, buildTest, buildOf}
+use Rattle.elias_fano.proofs.Answers.{value-inj}
 use Rattle.elias_fano.proofs.Cases as cases
 use Rattle.elias_fano.proofs.Filled as filled
 use Rattle.elias_fano.proofs.Filled.{Room}
@@ -204,9 +205,6 @@ module _ (u n : ℕ) (lent : List ℕ) (begun : Begun u n lent) where
   pub end-is : (xs : List Call) → endOf u n lent xs ≡ endFrom (openBook u n lent done []) (bookFrom u n lent [] xs)
   unfolding endOf
   end-is xs = ap₂ endFrom start (begins xs)
-
-  value-inj : (a b : ℕ) → value a ≡ value b → a ≡ b
-  value-inj a b e = cc
 
   -- its first words are the image of the accepted times
   image-left : (T : List ℕ) (c : Bool) (k : ℕ) (s : Made) → Ends T c s → s .answer ≡ value k → take k (s .words) ≡ image u n c T

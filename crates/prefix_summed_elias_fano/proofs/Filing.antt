@@ -12,7 +12,7 @@ use Rattle.darray_positions.specs.Index.{before}
 use Rattle.darray.specs.Sizes.{sizesBy, Sized}
 use Rattle.darray.specs.declared.inner.Sizes.{Sizes as IndexSizes}
 use Rattle.darray.proofs.Building.{by-sized}
-use Rattle.elias_fano_words.specs.Image.{highPositions, image}
+use Rattle.elias_fano_words.specs.Image.{highPositions}
 use Rattle.elias_fano_words.specs.Sizes.{startLen, sizesOf}
 use Rattle.elias_fano_words.specs.Times.{lastOf}
 use Rattle.elias_fano_words.specs.declared.sizes.Sizes.{Sizes}

@@ -1,7 +1,7 @@
 -- `elias_fano::finish::plan_by` meets its contract.
 -- Assumes nothing.
 use borrow.Author.Needs.{needs}
-use mathlib.Core.Path.{_≡_, ap₂}
+use mathlib.Core.Path.{_≡_}
 use Prim.Native.Nat.{ℕ, _+_}
 use Rattle.darray.specs.declared.inner.Sizes.{Sizes}
 use Rattle.elias_fano.specs.declared.finish.Plan.{Plan}

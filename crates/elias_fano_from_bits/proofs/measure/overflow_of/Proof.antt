@@ -1,8 +1,7 @@
 -- `elias_fano_from_bits::measure::overflow_of` meets its contract: the invariant says that `overflow` counts what the blocks before j spill, and that the mark has not
 -- passed the block j.
 -- Assumes nothing.
-use mathlib.Core.Path.{_≡_, refl, sym, ap, _∙_, subst}
-use mathlib.Core.Bool.{Bool}
+use mathlib.Core.Path.{_≡_, sym, ap, _∙_}
 use Prim.Native.Nat.{ℕ, suc, _+_, _-_, _*_, _/_, _≤_, _<_, min}
 use native.Mathlib.Numerals.{add-one}
 use native.Mathlib.Omega.{arith}
@@ -42,7 +41,7 @@ add-blocks c = let a = few (c .before) in omega arith
 loop-holds : tie.Need-loop-holds Inv-loop μ-loop
 loop-holds c =
     let s = c .before in
-    (omega arith, sym (highs.before-none (highOf (s .args .words .now) (s .args .len) (s .args .over-one))), marks.first-mark (s .args .words .now) (s .args .len), marks.first-upto (s .args .over-one) (s .args .l) _)
+    (omega arith, sym (index.before-none (highOf (s .args .words .now) (s .args .len) (s .args .over-one))), marks.first-mark (s .args .words .now) (s .args .len), marks.first-upto (s .args .over-one) (s .args .l) _)
 
 mul-k : tie.Need-mul-k Inv-loop μ-loop
 mul-k c = let h = there c in let a = few (c .before .before .before) in omega arith
@@ -102,10 +101,9 @@ next-before : (c : tie.After-spilled Inv-loop μ-loop)
 next-before c =
     let s = c .before .before .before .before .before .before .before .before in
     let l = c .before .before .before .before .before .before .loop in
-    let h = there (c .before .before .before .before .before) in
     let P = highOf (s .args .words .now) (s .args .len) (s .args .over-one) in
-    highs.next-before P (l .j) (subst (λ (y : ℕ). 1024 * l .j < y) (s .pre .2) h) _ (c .before .before .before .before .block-size .ensures ∙ ap (λ (y : ℕ). min 1024 (y - 1024 * l .j)) (s .pre .2))
-    _ _ (c .before .before .before .high-place .ensures .at) (c .before .high-place2 .ensures .at) _ _ (l .inv .1) (c .spilled .ensures)
+    highs.next-before P (l .j) _ _ _ (c .before .before .before .before .block-size .ensures ∙ ap (λ (y : ℕ). min 1024 (y - 1024 * l .j)) (s .pre .2))
+    (c .before .before .before .high-place .ensures .at) (c .before .high-place2 .ensures .at) _ _ (l .inv .1) (c .spilled .ensures)
 
 add-overflow : tie.Need-add-overflow Inv-loop μ-loop
 add-overflow c =
