@@ -24,7 +24,7 @@ use Rattle.elias_fano_walk.specs.Walking.{WalkOver}
 -- ---- lists
 
 -- the first j words of d are those of S; one more is written
-one-more : (S d : List ℕ) (j : ℕ) → j < length S → j < length d → set (take j S ++ drop j d) j (getD S j 0) ≡ take (suc j) S ++ drop (suc j) d
+pub one-more : (S d : List ℕ) (j : ℕ) → j < length S → j < length d → set (take j S ++ drop j d) j (getD S j 0) ≡ take (suc j) S ++ drop (suc j) d
 one-more S d j hs hd =
     ap (λ (r : List ℕ). set (take j S ++ r) j (getD S j 0)) (drop-cons d j 0 hd)
     ∙ set-at (take j S) (getD d j 0) (drop (suc j) d) (getD S j 0) j (length-take-le j S (le-of-lt hs))
@@ -74,22 +74,26 @@ module _ (i : List ℕ) (p : Parts) (d : List ℕ) where
 
 -- ---- the answer
 
+module _ (T : List ℕ) (k count : ℕ) (d : List ℕ) (e : count ≡ min (length d) (length T - k)) where
+  pub many-of : count ≡ length (readOut T k (length d))
+  many-of = e ∙ sym (length-take (length d) (drop k T) ∙ ap (min (length d)) (length-drop k T))
+
+  pub fills-of : (out : List ℕ) → out ≡ take count (drop k T) ++ drop count d → out ≡ filled T k d
+  unfolding filled
+  fills-of out x =
+      let S : List ℕ = drop k T in
+      x ∙ ap (λ (y : ℕ). take y S ++ drop y d) many-of
+      ∙ ap (λ (y : List ℕ). y ++ drop (length (take (length d) S)) d) (take-taken (length d) S)
+
 module _ (i : List ℕ) (ok : accepted i ≡ true) (p : Parts) (ep : p ≡ partsOf i) (k count : ℕ) (d : List ℕ) (e : count ≡ min (length d) (p .«num_pushed» - k)) where
+  by-times : count ≡ min (length d) (length (times i) - k)
+  by-times = e ∙ ap (λ (y : ℕ). min (length d) (y - k)) (selecting.pushed-is i ok p ep)
+
   pub many : count ≡ length (readOut (times i) k (length d))
-  many =
-      let T : List ℕ = times i in
-      let b = selecting.pushed-is i ok p ep in
-      let c = length-take (length d) (drop k T) in
-      let a = length-drop k T in
-      e ∙ sym (c ∙ ap (min (length d)) (a ∙ ap (λ (y : ℕ). y - k) (sym b)))
+  many = many-of (times i) k count d by-times
 
   pub fills : (n : ℕ) (out : List ℕ) → n ≡ k → out ≡ take count (drop n (times i)) ++ drop count d → out ≡ filled (times i) k d
-  unfolding filled
-  fills n out en x =
-      let S : List ℕ = drop k (times i) in
-      x ∙ ap (λ (y : ℕ). take count (drop y (times i)) ++ drop count d) en
-      ∙ ap (λ (y : ℕ). take y S ++ drop y d) many
-      ∙ ap (λ (y : List ℕ). y ++ drop (length (take (length d) S)) d) (take-taken (length d) S)
+  fills n out en x = fills-of (times i) k count d by-times out (x ∙ ap (λ (y : ℕ). take count (drop y (times i)) ++ drop count d) en)
 
 module _ (i : List ℕ) (k : ℕ) (d : List ℕ) where
   pub read-opened : accepted i ≡ true → (r : ℕ) (out : List ℕ) → r ≡ length (readOut (times i) k (length d)) → out ≡ filled (times i) k d → leaves (value r) out ≡ readFromOf i k d

@@ -37,7 +37,7 @@ fn take_all(image: &[u64], p: Parts, from: Walk, places: &[u8; 64], count: usize
 }
 
 // How many of m values from the number k on go into so many words.
-fn how_many(m: usize, k: usize, room: usize) -> usize
+pub fn how_many(m: usize, k: usize, room: usize) -> usize
     ensures { λ r. ⌜ r ≡ min room (m - k) ⌝ }
 {
     if k >= m {

@@ -1,2 +1,3 @@
 pub mod Building
+pub mod Items
 pub mod Sums

@@ -1,0 +1,175 @@
+-- The walk over the items: how it begins, what a step takes and leaves, and reading out. Assumes nothing.
+use mathlib.Core.Path.{_≡_, refl, sym, ap, ap₂, _∙_, subst}
+use mathlib.Core.List.{List, _∷_, _++_}
+use mathlib.Core.Bool.{Bool, true, false, cond, _||_}
+use Prim.Native.Nat.{ℕ, zero, suc, _+_, _-_, _≤_, _<_, min}
+use native.Mathlib.Nat.{add-zero}
+use native.Mathlib.Numerals.{add-one}
+use native.Mathlib.Omega.{arith}
+use borrow.Author.Tests.{le-ltb, lt-ltb, eq-eqb, ne-eqb}
+use lib.ListN.{length, getD, take, drop, set, length-drop, length-set, List·getD-eq-default}
+use lib.Seq.{getD-drop}
+use Rattle.errors.specs.Answer.{value, none, refused, Outcome, leaves}
+use Rattle.errors.specs.Refusal.{numberOf}
+use Rattle.errors.specs.declared.Refusal.{Refusal}
+use Rattle.elias_fano.specs.declared.image.Opened.{Opened}
+use Rattle.elias_fano.specs.declared.image.Opened.the-variants as opened
+use Rattle.elias_fano.specs.declared.image.Parts.{Parts}
+use Rattle.elias_fano.specs.Accept.{universe, times, accepted, partsOf, parts, unopened, ofOpened, openOf}
+use Rattle.elias_fano.specs.Ask.{nth, readOut, filled}
+use Rattle.elias_fano.proofs.Images as images
+use Rattle.elias_fano.proofs.Selecting as selecting
+use Rattle.elias_fano_walk.specs.declared.walk.Walk.{Walk}
+use Rattle.elias_fano_walk.specs.Walking.{WalkOver, valueStepOf}
+use Rattle.elias_fano_walk.proofs.Reading as reading
+use Rattle.prefix_summed_elias_fano.specs.Items.{askable, itemsOf, ItemsOver, StartsItems, readItemsOf}
+use Rattle.prefix_summed_elias_fano.specs.declared.walk.ItemPlace.{ItemPlace}
+use Rattle.prefix_summed_elias_fano.specs.declared.walk.ItemsStart.{ItemsStart}
+use Rattle.prefix_summed_elias_fano.specs.declared.walk.ItemsStart.the-variants as started
+use Rattle.prefix_summed_elias_fano.proofs.Gaps as gaps
+
+-- ---- the value before
+
+module _ (T : List ℕ) where
+  pub before-first : (k : ℕ) → k ≡ 0 → 0 ≡ getD (0 ∷ T) k 0
+  before-first k e = sym (ap (λ (j : ℕ). getD (0 ∷ T) j 0) e)
+
+  pub before-past : (k : ℕ) → length T < k → 0 ≡ getD (0 ∷ T) k 0
+  before-past k h = sym (List·getD-eq-default (0 ∷ T) 0 h)
+
+  pub before-next : (k v : ℕ) → (k ≡ 0 → ⊥) → v ≡ getD T (k - 1) 0 → v ≡ getD (0 ∷ T) k 0
+  before-next zero v z e = absurd (z refl)
+  before-next (suc k) v z e = e ∙ ap (λ (j : ℕ). getD T j 0) (let d : suc k - 1 ≡ k = omega arith in d)
+
+-- ---- the start
+
+module _ (i : List ℕ) where
+  pub over-accepted : accepted i ≡ true → (p : Parts) → p ≡ partsOf i → (k b : ℕ) (w : Walk) → WalkOver i p w → w .number ≡ k → b ≡ getD (0 ∷ times i) k 0 → ItemsOver i (record { parts = p; before = b; walk = w })
+  over-accepted ok p ep k b w o e eb = record { many = selecting.pushed-is i ok p ep; ahead = λ h. record { ok = ok; parts = ep; walk = o; before = eb ∙ ap (λ (j : ℕ). getD (0 ∷ times i) j 0) (sym e) } }
+
+  over-none : length i ≡ 0 → (c : ItemPlace) → c .parts .«num_pushed» ≡ 0 → ItemsOver i c
+  over-none e c z = record { many = z ∙ sym (ap length (gaps.no-times i e)); ahead = λ h. absurd (omega (arith, h, z)) }
+
+  askable-none : length i ≡ 0 → askable i ≡ true
+  unfolding askable
+  askable-none e = ap (λ (b : Bool). b || accepted i) (eq-eqb (length i) 0 e)
+
+  askable-some : (length i ≡ 0 → ⊥) → askable i ≡ accepted i
+  unfolding askable
+  askable-some h = ap (λ (b : Bool). b || accepted i) (ne-eqb (length i) 0 h)
+
+  pub starts-none : length i ≡ 0 → (k : ℕ) (c : ItemPlace) → c .parts .«num_pushed» ≡ 0 → c .walk .number ≡ k → StartsItems i k (started.ItemPlace c)
+  starts-none e k c z n = (askable-none e, over-none e c z, n)
+
+  module _ (some : length i ≡ 0 → ⊥) (r : Opened) (er : ofOpened r ≡ openOf i) where
+    pub starts-opened : accepted i ≡ true → (k : ℕ) (c : ItemPlace) → ItemsOver i c → c .walk .number ≡ k → StartsItems i k (started.ItemPlace c)
+    starts-opened ok k c o n = (askable-some some ∙ ok, o, n)
+
+    refused-by : (b : Bool) (n : ℕ) (q : Parts) → unopened n ≡ cond b (parts q) (unopened 7) → (b ≡ false) × (n ≡ 7)
+    refused-by true n q e = let z : _≡_ {A = ℕ} 0 1 = cc in absurd (omega arith)
+    refused-by false n q e = (refl, cc)
+
+    pub starts-refused : (x : Refusal) → r ≡ opened.Refused x → (k : ℕ) → StartsItems i k (started.Refused x)
+    unfolding openOf
+    starts-refused x e k = let d = refused-by (accepted i) (numberOf x) (partsOf i) (sym (ap ofOpened e) ∙ er) in (askable-some some ∙ d .0, d .1)
+
+-- ---- a step
+
+module _ (i : List ℕ) (c : ItemPlace) (o : ItemsOver i c) where
+  abbrev k : ℕ
+  k = c .walk .number
+
+  module _ (h : k < c .parts .«num_pushed») where
+    inside : k < length (times i)
+    inside = subst (λ (n : ℕ). k < n) (o .many) h
+
+    pub fits : (v : ℕ) → v ≡ getD (times i) k 0 → c .before ≤ v
+    fits v e = let a = o .ahead h in let r = gaps.rises-from (universe i) 0 (times i) k (images.is-fit i (a .ok) .rises) inside in omega (arith, a .before, e, r)
+
+    pub item-is : (v : ℕ) → v ≡ getD (times i) k 0 → v - c .before ≡ getD (itemsOf i) k 0
+    item-is v e = ap₂ (λ (x y : ℕ). x - y) e (o .ahead h .before) ∙ sym (gaps.gap-at (times i) k inside)
+
+    pub goes-on : (v : ℕ) → v ≡ getD (times i) k 0 → (w : Walk) → WalkOver i (c .parts) w → w .number ≡ suc k → ItemsOver i (record { parts = c .parts; before = v; walk = w })
+    goes-on v e w a n = over-accepted i (o .ahead h .ok) (c .parts) (o .ahead h .parts) (suc k) v w a n e
+
+  many : c .parts .«num_pushed» ≡ length (itemsOf i)
+  many = o .many ∙ sym (gaps.length-gaps 0 (times i))
+
+  pub stepped-none : c .parts .«num_pushed» ≤ k → record { answer = none; number = k } ≡ valueStepOf (itemsOf i) k
+  unfolding valueStepOf nth
+  stepped-none h = sym (simp (le-ltb k (length (itemsOf i)) (subst (λ (y : ℕ). y ≤ k) many h)))
+
+  pub stepped-some : (v m : ℕ) → k < c .parts .«num_pushed» → m ≡ suc k → v ≡ getD (itemsOf i) k 0 → record { answer = value v; number = m } ≡ valueStepOf (itemsOf i) k
+  unfolding valueStepOf nth
+  stepped-some v m h em e =
+      ap₂ (λ (y z : ℕ). record { answer = value y; number = z }) e em ∙ sym (simp (lt-ltb k (length (itemsOf i)) (subst (λ (y : ℕ). k < y) many h)))
+
+-- ---- reading out
+
+-- d were the words, of which j are written, from the place k on
+pub record ItemsWritten (i : List ℕ) (k count : ℕ) (d out : List ℕ) (c : ItemPlace) (j : ℕ) : Type 0 where
+  pub upto : j ≤ count
+  pub over : ItemsOver i c
+  pub few : count ≤ c .parts .«num_pushed» - k
+  pub number : c .walk .number ≡ k + j
+  pub words : out ≡ take j (drop k (itemsOf i)) ++ drop j d
+  pub long : length out ≡ length d
+
+module _ (i d : List ℕ) where
+  pub none-written : (count : ℕ) (c : ItemPlace) → ItemsOver i c → count ≤ c .parts .«num_pushed» - c .walk .number → ItemsWritten i (c .walk .number) count d d c 0
+  none-written count c o m = record { upto = omega arith; over = o; few = m; number = sym (add-zero (c .walk .number)); words = refl; long = refl }
+
+  module _ (k count : ℕ) (room : count ≤ length d) (out : List ℕ) (c : ItemPlace) (j : ℕ) (s : ItemsWritten i k count d out c j) (l : j < count) where
+    pub one-left : c .walk .number < c .parts .«num_pushed»
+    one-left = let e = s .number in let f = s .few in omega arith
+
+    pub one-written : (v : ℕ) (n : ItemPlace) → ItemsOver i n → n .walk .number ≡ suc (c .walk .number) → v ≡ getD (itemsOf i) (c .walk .number) 0 → ItemsWritten i k count d (set out j v) n (j + 1)
+    one-written v n o en e =
+        let G : List ℕ = itemsOf i in
+        let f : count ≤ length G - k = let a = s .few in let b = many i c (s .over) in omega arith in
+        let x : v ≡ getD (drop k G) j 0 = e ∙ ap (λ (q : ℕ). getD G q 0) (s .number) ∙ sym (getD-drop k G j 0) in
+        record {
+          upto = omega arith;
+          over = o;
+          few = let b = many i n o in omega arith;
+          number = let a = s .number in omega arith;
+          words = ap₂ (λ (r : List ℕ) (y : ℕ). set r j y) (s .words) x ∙ reading.one-more (drop k G) d j (let a = length-drop k G in omega arith) (omega arith) ∙ ap (λ (q : ℕ). take q (drop k G) ++ drop q d) (sym (add-one j));
+          long = length-set out j v ∙ s .long;
+        }
+
+  pub all-written : (k count : ℕ) (out : List ℕ) (c : ItemPlace) (j : ℕ) → ItemsWritten i k count d out c j → count ≤ j → out ≡ take count (drop k (itemsOf i)) ++ drop count d
+  all-written k count out c j s l =
+      let e : j ≡ count = let a = s .upto in omega arith in
+      s .words ∙ ap (λ (q : ℕ). take q (drop k (itemsOf i)) ++ drop q d) e
+
+module _ (i : List ℕ) (c : ItemPlace) (o : ItemsOver i c) (count : ℕ) (d : List ℕ) (e : count ≡ min (length d) (c .parts .«num_pushed» - c .walk .number)) where
+  by-items : count ≡ min (length d) (length (itemsOf i) - c .walk .number)
+  by-items = e ∙ ap (λ (y : ℕ). min (length d) (y - c .walk .number)) (many i c o)
+
+  pub read-many : count ≡ length (readOut (itemsOf i) (c .walk .number) (length d))
+  read-many = reading.many-of (itemsOf i) (c .walk .number) count d by-items
+
+  pub read-fills : (out : List ℕ) → out ≡ take count (drop (c .walk .number) (itemsOf i)) ++ drop count d → out ≡ filled (itemsOf i) (c .walk .number) d
+  read-fills out x = reading.fills-of (itemsOf i) (c .walk .number) count d by-items out x
+
+module _ (i : List ℕ) (k : ℕ) where
+  pub started-over : (s : ItemsStart) (c : ItemPlace) → StartsItems i k s → s ≡ started.ItemPlace c → ItemsOver i c
+  started-over s c h e = subst (StartsItems i k) e h .1
+
+module _ (i : List ℕ) (k : ℕ) (d : List ℕ) where
+  abbrev read : Outcome
+  read = leaves (value (length (readOut (itemsOf i) k (length d)))) (filled (itemsOf i) k d)
+
+  pub items-read : (s : ItemsStart) (c : ItemPlace) → StartsItems i k s → s ≡ started.ItemPlace c → (r : ℕ) (out : List ℕ) → r ≡ length (readOut (itemsOf i) (c .walk .number) (length d)) → out ≡ filled (itemsOf i) (c .walk .number) d → leaves (value r) out ≡ readItemsOf i k d
+  unfolding readItemsOf
+  items-read s c h e r out er ex =
+      let b = subst (StartsItems i k) e h in
+      ap₂ (λ (x : ℕ) (w : List ℕ). leaves (value x) w) er ex
+      ∙ ap (λ (n : ℕ). leaves (value (length (readOut (itemsOf i) n (length d)))) (filled (itemsOf i) n d)) (b .2)
+      ∙ sym (ap (λ (a : Bool). cond a read (leaves (refused 7) d)) (b .0))
+
+  pub items-refused : (s : ItemsStart) (x : Refusal) → StartsItems i k s → s ≡ started.Refused x → leaves (refused (numberOf x)) d ≡ readItemsOf i k d
+  unfolding readItemsOf
+  items-refused s x h e =
+      let b = subst (StartsItems i k) e h in
+      ap (λ (n : ℕ). leaves (refused n) d) (b .1) ∙ sym (ap (λ (a : Bool). cond a read (leaves (refused 7) d)) (b .0))

@@ -1,0 +1,63 @@
+-- The items of an image, one after the other: what a walk over them demands and leaves, and what reading them out leaves. i is an image, or
+-- no words. Document 01, "src/int_vectors/prefix_summed_elias_fano.rs". Assumes nothing.
+use mathlib.Core.Path.{_≡_}
+use mathlib.Core.List.{List, [], _∷_}
+use mathlib.Core.Bool.{Bool, true, false, _||_, cond}
+use Prim.Native.Nat.{ℕ, _+_, _-_, _<_}
+use lib.Dec.{eqb}
+use lib.ListN.{length, getD}
+use Rattle.errors.specs.Answer.{value, refused, Outcome, leaves}
+use Rattle.errors.specs.Refusal.{numberOf}
+use Rattle.elias_fano.specs.Accept.{accepted, partsOf, times, ofValue}
+use Rattle.elias_fano.specs.Ask.{readOut, filled}
+use Rattle.elias_fano_walk.specs.Walking.{WalkOver, Walked, walked}
+use Rattle.prefix_summed_elias_fano.specs.Sums.{accessOf}
+use Rattle.prefix_summed_elias_fano.specs.declared.walk.ItemPlace.{ItemPlace}
+use Rattle.prefix_summed_elias_fano.specs.declared.walk.ItemStep.{ItemStep}
+use Rattle.prefix_summed_elias_fano.specs.declared.walk.ItemsStart.{ItemsStart}
+use Rattle.prefix_summed_elias_fano.specs.declared.walk.ItemsStart.the-variants as started
+
+-- an accepted image, or no words
+unfoldable pub askable : List ℕ → Bool
+askable i = eqb (length i) 0 || accepted i
+
+-- each time less the one before it; x is before the first
+unfoldable pub gapsFrom : ℕ → List ℕ → List ℕ
+gapsFrom x [] = []
+gapsFrom x (t ∷ T) = (t - x) ∷ gapsFrom t T
+
+-- no words hold none
+abbrev pub itemsOf : List ℕ → List ℕ
+itemsOf i = gapsFrom 0 (times i)
+
+-- ---- a walk
+
+-- the j-th step of a walk from the place k on is the item at k + j: 7 is decided at the start, and after the items comes none, and none again
+abbrev pub ItemWalks : Type 0
+ItemWalks = (i : List ℕ) (k j : ℕ) → cond (askable i) (walked (itemsOf i) k j) (refused 7) ≡ accessOf i (k + j)
+
+-- an item is ahead: the walk over the values from its own on, and the value before it
+pub record ItemAhead (i : List ℕ) (c : ItemPlace) : Type 0 where
+  pub ok : accepted i ≡ true
+  pub parts : c .parts ≡ partsOf i
+  pub walk : WalkOver i (c .parts) (c .walk)
+  pub before : c .before ≡ getD (0 ∷ times i) (c .walk .number) 0
+
+-- a place as the start and each step leave it; at the end nothing is demanded of it
+pub record ItemsOver (i : List ℕ) (c : ItemPlace) : Type 0 where
+  pub many : c .parts .«num_pushed» ≡ length (times i)
+  pub ahead : c .walk .number < c .parts .«num_pushed» → ItemAhead i c
+
+abbrev pub StartsItems : List ℕ → ℕ → ItemsStart → Type 0
+StartsItems i k (started.ItemPlace c) = (askable i ≡ true) × ItemsOver i c × (c .walk .number ≡ k)
+StartsItems i k (started.Refused e) = (askable i ≡ false) × (numberOf e ≡ 7)
+
+-- what a step leaves: its answer, and the number of the next item
+abbrev pub ofItemStep : ItemStep → Walked
+ofItemStep r = record { answer = ofValue (r .item); number = r .place .walk .number }
+
+-- ---- reading out
+
+-- the items from the place k on, as many as the words take; the later words stay
+unfoldable pub readItemsOf : List ℕ → ℕ → List ℕ → Outcome
+readItemsOf i k out = cond (askable i) (leaves (value (length (readOut (itemsOf i) k (length out)))) (filled (itemsOf i) k out)) (leaves (refused 7) out)
