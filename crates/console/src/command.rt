@@ -92,6 +92,25 @@ fn of_numbers(name: &[u8], r: Arguments, words: &mut [u64], len: usize) -> Told 
     bits::alter(name, r, words, len)
 }
 
+// What a command of the section Record answers is written, and what it leaves is held.
+fn after(told: console_record::Told, out: &mut [u8; 65536], s: State) -> State {
+    let mut t = s;
+    let reply = told.reply;
+    let record = told.record;
+    t.record = record;
+    t.at = output::reply_line(out, s.at, reply);
+    t
+}
+
+// A question over the image: of the record, or of the prefix sums.
+fn asked(name: &[u8], r: Arguments, image: &[u64]) -> Reply {
+    let question = console_questions::answer(name, r, image);
+    if output::is_known(question) {
+        return question;
+    }
+    console_sums::answer(name, r, image)
+}
+
 // The section Record: a question over the image, or what alters what is held.
 fn of_record(
     name: &[u8],
@@ -102,17 +121,24 @@ fn of_record(
 ) -> State {
     let mut t = s;
     let held = s.record;
-    let question = console_questions::answer(name, r, line::first(buffer, held.image));
+    let question = asked(name, r, line::first(buffer, held.image));
     if output::is_known(question) {
         t.at = output::reply_line(out, s.at, question);
         return t;
     }
-    let told = console_record::answer(name, r, buffer, held);
-    let reply = told.reply;
-    let record = told.record;
-    t.record = record;
-    t.at = output::reply_line(out, s.at, reply);
-    t
+    after(console_record::answer(name, r, buffer, held), out, s)
+}
+
+// `sums X..`
+fn summed(
+    text: &[u8],
+    end: usize,
+    buffer: &mut [u64; 65536],
+    out: &mut [u8; 65536],
+    s: State,
+) -> State {
+    let held = s.record;
+    after(console_sums::build::answer(text, end, buffer, held), out, s)
 }
 
 // A command that takes a few numbers and has one answer: what the first two sections do not know is asked of the record.
@@ -175,7 +201,7 @@ fn listed(
     bits::dump(words, len, out, at)
 }
 
-// Those of Record: `words` 4, `builder` 5, and the questions `walk` 6, `read` 7.
+// Those of Record: `words` 4, `builder` 5, and the questions `walk` 6, `read` 7, `sums_walk` 8.
 fn recorded(
     k: usize,
     r: Arguments,
@@ -184,6 +210,9 @@ fn recorded(
     out: &mut [u8; 65536],
     at: usize,
 ) -> usize {
+    if k == 8 {
+        return console_sums::list(r, line::first(buffer, record.image), out, at);
+    }
     if 5 < k {
         return console_questions::list(k, r, line::first(buffer, record.image), out, at);
     }
@@ -209,7 +238,10 @@ pub fn answer(
     }
     let end = line::word_end(text, 0);
     let name = &text[..end];
-    let k = line::place_in(b"bits unary index dump words builder walk read", name);
+    let k = line::place_in(
+        b"bits unary index dump words builder walk read sums_walk sums",
+        name,
+    );
     if k == 0 {
         return set(text, end, words, out, s);
     }
@@ -218,8 +250,11 @@ pub fn answer(
         t.at = listed(k, text, end, line::first(words, s.lent), s.len, out, s.at);
         return t;
     }
+    if k == 9 {
+        return summed(text, end, buffer, out, s);
+    }
     let r = line::numbers(text, end);
-    if k < 8 {
+    if k < 9 {
         let record = s.record;
         t.at = recorded(k, r, buffer, record, out, s.at);
         return t;

@@ -13,10 +13,9 @@ use Rattle.errors.specs.declared.Refusal.{Refusal}
 use Rattle.elias_fano.specs.declared.image.Opened.{Opened}
 use Rattle.elias_fano.specs.declared.image.Opened.the-variants as opened
 use Rattle.elias_fano.specs.declared.image.Parts.{Parts}
-use Rattle.elias_fano.specs.Accept.{times, accepted, partsOf, parts, unopened, ofOpened, ofValue, openOf}
+use Rattle.elias_fano.specs.Accept.{times, accepted, partsOf, parts, unopened, ofOpened, openOf}
 use Rattle.elias_fano.specs.Ask.{Next, nth, ask, query}
-use Rattle.elias_fano_walk.specs.declared.walk.ValueStep.{ValueStep}
-use Rattle.elias_fano_walk.specs.Walking.{Walked, ofValueStep, valueStepOf}
+use Rattle.elias_fano_walk.specs.Walking.{Walked, valueStepOf}
 use Rattle.console_text.specs.Gathered.{Gathered, withByte, withRefusal, withAnswer}
 use Rattle.console_questions.specs.Questions.{withEach, withAnswers, nextsFrom, nextsOf, walkOf}
 
@@ -76,27 +75,27 @@ module _ (T : List ℕ) (g : Gathered) (k : ℕ) where
   unfolding withAnswers nextsFrom
   all-done count e = ap (λ (x : ℕ). withAnswers g (nextsFrom T k x)) e
 
-  -- the next answer, and those after it from where the step s leaves the walk
-  module _ (s : ValueStep) (to : Gathered) (count d : ℕ) (some : count ≡ suc d) (stepped : ofValueStep s ≡ valueStepOf T k) where
-    given : ofValue (s .value) ≡ nth T k
+  -- the next answer a, and those after it from the number n on, where the step leaves the walk
+  module _ (a : Answer) (n : ℕ) (to : Gathered) (count d : ℕ) (some : count ≡ suc d) (stepped : record { answer = a; number = n } ≡ valueStepOf T k) where
+    given : a ≡ nth T k
     unfolding valueStepOf
     given = ap (λ (x : Walked). x .answer) stepped
 
-    left : s .walk .number ≡ after
+    left : n ≡ after
     unfolding valueStepOf
     left = ap (λ (x : Walked). x .number) stepped
 
-    pub rest-more : to ≡ withAnswer (withByte g 32) (ofValue (s .value)) → withEach g (nextsFrom T k count) ≡ withEach to (nextsFrom T (s .walk .number) d)
+    pub rest-more : to ≡ withAnswer (withByte g 32) a → withEach g (nextsFrom T k count) ≡ withEach to (nextsFrom T n d)
     rest-more e =
         ap (λ (x : ℕ). withEach g (nextsFrom T k x)) some
         ∙ each-more d
-        ∙ sym (ap₂ (λ (h : Gathered) (n : ℕ). withEach h (nextsFrom T n d)) (e ∙ ap (withAnswer (withByte g 32)) given) left)
+        ∙ sym (ap₂ (λ (h : Gathered) (m : ℕ). withEach h (nextsFrom T m d)) (e ∙ ap (withAnswer (withByte g 32)) given) left)
 
-    pub all-more : to ≡ withAnswer g (ofValue (s .value)) → withAnswers g (nextsFrom T k count) ≡ withEach to (nextsFrom T (s .walk .number) d)
+    pub all-more : to ≡ withAnswer g a → withAnswers g (nextsFrom T k count) ≡ withEach to (nextsFrom T n d)
     all-more e =
         ap (λ (x : ℕ). withAnswers g (nextsFrom T k x)) some
         ∙ first-more d
-        ∙ sym (ap₂ (λ (h : Gathered) (n : ℕ). withEach h (nextsFrom T n d)) (e ∙ ap (withAnswer g) given) left)
+        ∙ sym (ap₂ (λ (h : Gathered) (m : ℕ). withEach h (nextsFrom T m d)) (e ∙ ap (withAnswer g) given) left)
 
 -- an image that is refused
 module _ (i : List ℕ) (k count : ℕ) (g : Gathered) where

@@ -37,7 +37,7 @@ pub fn value(v: Value) -> Reply
     }
 }
 
-fn number(n: Number) -> Reply
+pub fn number(n: Number) -> Reply
     ensures { λ t. ⌜ saysOf t ≡ answers (ofNumber n) ⌝ }
 {
     match n {

@@ -4,9 +4,9 @@ ghost use Rattle.console_text.specs.Gathered.{gathered};
 ghost use Rattle.console_text.specs.Says.{saysOf};
 ghost use Rattle.console_questions.specs.Questions.{takesOf, answerOf, fitsListOf, listedOf, lineOf};
 
-mod ask;
+pub mod ask;
 mod read;
-mod walk;
+pub mod walk;
 
 use console_text::line;
 use console_text::line::Arguments;

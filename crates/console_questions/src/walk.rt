@@ -17,14 +17,14 @@ use elias_fano_walk::walk::Walk;
 use elias_fano_walk::walk::begin;
 use elias_fano_walk::walk::next;
 
-fn shown(out: &mut [u8; 65536], at: usize, v: Value) -> usize
+pub fn shown(out: &mut [u8; 65536], at: usize, v: Value) -> usize
     ensures { λ t. ⌜ gathered t (now (out .exit)) ≡ withAnswer (gathered at (now (out .entry))) (ofValue v) ⌝ }
 {
     output::answer(out, at, ask::value(v))
 }
 
 // An answer after a space.
-fn next_shown(out: &mut [u8; 65536], at: usize, v: Value) -> usize
+pub fn next_shown(out: &mut [u8; 65536], at: usize, v: Value) -> usize
     ensures { λ t. ⌜ gathered t (now (out .exit)) ≡ withAnswer (withByte (gathered at (now (out .entry))) 32) (ofValue v) ⌝ }
 {
     let to = output::byte(out, at, b' ');

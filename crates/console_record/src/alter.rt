@@ -31,7 +31,7 @@ fn pushed(p: Pushed, s: Record) -> Told
 }
 
 // The words of a finish are the image from then on.
-fn built(b: Built, s: Record) -> Told
+pub fn built(b: Built, s: Record) -> Told
     ensures { λ t. ⌜ t ≡ toldBuilt b s ⌝ }
 {
     let mut t = s;

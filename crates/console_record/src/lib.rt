@@ -2,7 +2,7 @@
 ghost use mathlib.Core.Path.{_≡_};
 ghost use Rattle.console_record.specs.Section.{turnOf, lending, fitsOf, doneOf, answerOf};
 
-mod alter;
+pub mod alter;
 mod hold;
 pub mod show;
 

@@ -1,19 +1,20 @@
 -- Laws of a line that is read from the left. Assumes nothing.
-use mathlib.Core.Path.{_≡_, refl, sym, ap, _∙_}
+use mathlib.Core.Path.{_≡_, refl, sym, ap, ap₂, _∙_}
 use mathlib.Core.Bool.{Bool, true, false, cond}
 use mathlib.Core.List.{List, [], _∷_}
 use Prim.Native.Nat.{ℕ, suc, _+_, _-_, _≤_, _<_}
+use native.Mathlib.Nat.{add-zero}
 use native.Mathlib.Numerals.{add-one}
 use native.Mathlib.Omega.{arith}
 use lib.Dec.{eqb}
-use lib.ListN.{length, take, drop, getD, length-drop, drop-of-length-le}
-use lib.Seq.{drop-cons, drop-drop}
+use lib.ListN.{length, take, drop, getD, set, length-drop, drop-of-length-le}
+use lib.Seq.{sets, drop-cons, drop-drop, sets-eq, take-at}
 use borrow.Author.Tests.{eq-eqb, ne-eqb}
 use Rattle.decimal.specs.Decimal.{parseOf}
 use Rattle.decimal.specs.declared.Parsed.{Parsed}
 use Rattle.decimal.specs.declared.Parsed.the-variants.{Value, OutOfForm, TooLarge}
 use Rattle.console_text.specs.declared.line.Arguments.{Arguments}
-use Rattle.console_text.specs.Line.{upTo, grow, wordsIn, sameText, placeAmong, split, fields, numbersOf, noNumbers, numbersFrom, ifValue, ifAt, orZero, putAt, storedFrom}
+use Rattle.console_text.specs.Line.{upTo, grow, wordsIn, sameText, placeAmong, split, fields, numbersOf, noNumbers, numbersFrom, ifValue, ifAt, orZero, valuesOf}
 
 module _ (t : List ℕ) (b i : ℕ) where
   -- the byte stands at i
@@ -150,15 +151,45 @@ module _ (t : List ℕ) (at end : ℕ) (h : at < length t) (e : end ≡ at + 1 +
     pub number-stop : ((v : ℕ) → p ≡ Value v → ⊥) → numbersFrom k x y z w (fields (drop at t)) ≡ noNumbers
     number-stop h = number-next ∙ stop-by p _ h
 
-  pub store-next : (i x : ℕ) (l : List ℕ) → x ≡ orZero (parseOf (take (end - (at + 1)) (drop (at + 1) t))) → storedFrom i l (fields (drop at t)) ≡ storedFrom (i + 1) (putAt l i x) (fields (drop end t))
-  unfolding storedFrom
-  store-next i x l f = rw (field-next, f)
+  pub store-next : (i x : ℕ) (l : List ℕ) → x ≡ orZero (parseOf (take (end - (at + 1)) (drop (at + 1) t))) → sets l i (valuesOf (fields (drop at t))) ≡ sets (set l i x) (i + 1) (valuesOf (fields (drop end t)))
+  unfolding valuesOf
+  store-next i x l f = ap (λ (w : List (List ℕ)). sets l i (valuesOf w)) field-next ∙ ap₂ (λ (y j : ℕ). sets (set l i y) j (valuesOf (fields (drop end t)))) (sym f) (sym (add-one i))
 
 module _ (t : List ℕ) (at : ℕ) (h : length t ≤ at) where
   pub numbers-end : (k x y z w : ℕ) → numbersFrom k x y z w (fields (drop at t)) ≡ numbersOf k x y z w
   unfolding numbersFrom fields
   numbers-end k x y z w = rw (drop-of-length-le t h)
 
-  pub store-end : (i : ℕ) (l : List ℕ) → storedFrom i l (fields (drop at t)) ≡ l
-  unfolding storedFrom fields
+  pub store-end : (i : ℕ) (l : List ℕ) → sets l i (valuesOf (fields (drop at t))) ≡ l
+  unfolding valuesOf fields
   store-end i l = rw (drop-of-length-le t h)
+
+-- ---- all the numbers of a line
+
+length-values : (fs : List (List ℕ)) → length (valuesOf fs) ≡ length fs
+unfolding valuesOf
+length-values [] = refl
+length-values (t ∷ ts) = ap suc (length-values ts)
+
+unfit : false ≡ true → ⊥
+unfit e = let z : _≡_ {A = ℕ} 0 1 = ap (λ (b : Bool). cond b 1 0) e in omega arith
+
+-- as many numbers as words, where all of them are
+pub numbers-many : (fs : List (List ℕ)) (k x y z w : ℕ) → numbersFrom k x y z w fs .fit ≡ true → numbersFrom k x y z w fs .n ≡ k + length fs
+unfolding numbersFrom
+numbers-many [] k x y z w e = sym (add-zero k)
+numbers-many (t ∷ ts) k x y z w e = go (λ a b c d. numbers-many ts (k + 1) a b c d) (parseOf t) e
+  where
+    rest : ℕ → Arguments
+    rest v = numbersFrom (k + 1) (ifAt k 0 v x) (ifAt k 1 v y) (ifAt k 2 v z) (ifAt k 3 v w) ts
+
+    go : ((a b c d : ℕ) → numbersFrom (k + 1) a b c d ts .fit ≡ true → numbersFrom (k + 1) a b c d ts .n ≡ k + 1 + length ts) → (p : Parsed) → ifValue p rest .fit ≡ true → ifValue p rest .n ≡ k + suc (length ts)
+    go ih (Value v) f = ih (ifAt k 0 v x) (ifAt k 1 v y) (ifAt k 2 v z) (ifAt k 3 v w) f ∙ (let d : (j m : ℕ) → j + 1 + m ≡ j + suc m = λ j m. omega arith in d k (length ts))
+    go ih OutOfForm f = absurd (unfit f)
+    go ih TooLarge f = absurd (unfit f)
+
+-- they stand in front, where there are so many words
+pub stored-values : (l : List ℕ) (fs : List (List ℕ)) (n : ℕ) → n ≡ length fs → n ≤ length l → take n (sets l 0 (valuesOf fs)) ≡ valuesOf fs
+stored-values l fs n e h =
+    let m : length (valuesOf fs) ≡ n = length-values fs ∙ sym e in
+    ap (take n) (sets-eq (valuesOf fs) l 0 (omega (arith, m, h))) ∙ take-at (valuesOf fs) (drop (0 + length (valuesOf fs)) l) n m

@@ -2,8 +2,7 @@
 use mathlib.Core.Bool.{Bool, true, false, cond}
 use mathlib.Core.List.{List, [], _∷_}
 use Prim.Native.Nat.{ℕ, suc, _+_}
-use lib.Dec.{eqb, ltb}
-use lib.ListN.{set}
+use lib.Dec.{eqb}
 use Rattle.decimal.specs.Decimal.{parseOf}
 use Rattle.decimal.specs.declared.Parsed.{Parsed}
 use Rattle.decimal.specs.declared.Parsed.the-variants.{Value, OutOfForm, TooLarge}
@@ -73,11 +72,7 @@ orZero (Value x) = x
 orZero OutOfForm = 0
 orZero TooLarge = 0
 
--- 4,096 words with x at i, where there is such a word
-abbrev pub putAt : List ℕ → ℕ → ℕ → List ℕ
-putAt l i x = cond (ltb i 4096) (set l i x) l
-
--- with the numbers of the words from i on
-unfoldable pub storedFrom : ℕ → List ℕ → List (List ℕ) → List ℕ
-storedFrom i l [] = l
-storedFrom i l (t ∷ ts) = storedFrom (i + 1) (putAt l i (orZero (parseOf t))) ts
+-- each word as a number, 0 where it is none
+unfoldable pub valuesOf : List (List ℕ) → List ℕ
+valuesOf [] = []
+valuesOf (t ∷ ts) = orZero (parseOf t) ∷ valuesOf ts

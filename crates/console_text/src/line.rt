@@ -1,9 +1,10 @@
 // A line as words with one space between them, and its numbers.
 ghost use mathlib.Core.Path.{_≡_};
 ghost use Prim.Native.Nat.{_+_, _≤_};
-ghost use lib.ListN.{length, take, drop};
+ghost use lib.ListN.{length, take, drop, set};
+ghost use lib.Seq.{sets};
 ghost use Rattle.decimal.specs.Decimal.{parseOf};
-ghost use Rattle.console_text.specs.Line.{upTo, wordsIn, sameText, placeAmong, fields, noNumbers, ifAt, numbersFrom, orZero, putAt, storedFrom};
+ghost use Rattle.console_text.specs.Line.{upTo, wordsIn, sameText, placeAmong, fields, noNumbers, ifAt, numbersFrom, orZero, valuesOf};
 use decimal::Parsed;
 
 // The words after a command as numbers: whether all of them are, how many, and the first four.
@@ -137,24 +138,25 @@ fn value(text: &[u8]) -> u64
     }
 }
 
-fn put(words: &mut [u64; 4096], i: usize, x: u64)
-    ensures { λ _. ⌜ now (words .exit) ≡ putAt (now (words .entry)) i x ⌝ }
+// A word past the end is dropped.
+fn put(words: &mut [u64], i: usize, x: u64)
+    ensures { λ _. ⌜ now (words .exit) ≡ set (now (words .entry)) i x ⌝ }
 {
-    if i < 4096 {
+    if i < words.len() {
         words[i] = x;
     }
 }
 
-// Stores the numbers after the word that ends at `end`.
-pub fn store(line: &[u8], end: usize, words: &mut [u64; 4096])
-    ensures { λ _. ⌜ now (words .exit) ≡ storedFrom 0 (now (words .entry)) (fields (drop end (now (line .entry)))) ⌝ }
+// Stores the numbers after the word that ends at `end`, as many as there are words.
+pub fn store(line: &[u8], end: usize, words: &mut [u64])
+    ensures { λ _. ⌜ now (words .exit) ≡ sets (now (words .entry)) 0 (valuesOf (fields (drop end (now (line .entry))))) ⌝ }
 {
     let mut i: usize = 0;
     let mut at = end;
     while at < line.len() {
         let start = at + 1;
         at = word_end(line, start);
-        put(words, i, value(&line[start..at]));
+        put(&mut *words, i, value(&line[start..at]));
         i += 1;
     }
 }

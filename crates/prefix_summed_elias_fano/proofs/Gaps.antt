@@ -4,7 +4,7 @@ use mathlib.Core.List.{List, [], _∷_}
 use mathlib.Core.Bool.{Bool, true, false, cond, _||_}
 use Prim.Native.Nat.{ℕ, zero, suc, _+_, _-_, _≤_, _<_}
 use native.Mathlib.Decide.{decLt}
-use native.Mathlib.Nat.{lt-of-not-le, not-suc-le-zero, le-of-suc-le-suc}
+use native.Mathlib.Nat.{add-zero, lt-of-not-le, not-suc-le-zero, le-of-suc-le-suc}
 use native.Mathlib.Omega.{arith}
 use borrow.Author.Tests.{le-ltb, eqb-true}
 use lib.Dec.{eqb, ltb}
@@ -15,7 +15,7 @@ use Rattle.elias_fano_words.specs.Times.{rising, timesIn}
 use Rattle.elias_fano_words.proofs.Rising.{rising-first}
 use Rattle.elias_fano.specs.Accept.{times, accepted}
 use Rattle.elias_fano.specs.Ask.{nth, gap, ask, query}
-use Rattle.elias_fano_walk.specs.Walking.{walked}
+use Rattle.elias_fano_walk.specs.Walking.{valueStepOf, walked}
 use Rattle.elias_fano_walk.proofs.Steps.{walks}
 use Rattle.prefix_summed_elias_fano.specs.Items.{askable, gapsFrom, itemsOf, ItemWalks}
 use Rattle.prefix_summed_elias_fano.specs.Sums.{accessOf}
@@ -79,3 +79,8 @@ by false false x y h e = refl
 pub item-walks : ItemWalks
 unfolding askable accessOf query ask
 item-walks i k j = by (eqb (length i) 0) (accepted i) (walked (itemsOf i) k j) (gap (times i) (k + j)) (λ e. none-there i (k + j) (eqb-true (length i) 0 e)) (step-is (times i) k j)
+
+-- what may be asked is asked of the list
+pub access-is : (i : List ℕ) (k : ℕ) → askable i ≡ true → accessOf i k ≡ nth (itemsOf i) k
+unfolding walked valueStepOf
+access-is i k ok = ap (accessOf i) (sym (add-zero k)) ∙ sym (item-walks i k 0) ∙ ap (λ (b : Bool). cond b (nth (itemsOf i) k) (refused 7)) ok

@@ -41,20 +41,26 @@ listed-requires c κs = search needs
 returns-4 : tie.Need-returns-4
 returns-4 c = search needs
 
+summed-requires : tie.Need-summed-requires
+summed-requires c κs = search needs
+
+returns-5 : tie.Need-returns-5
+returns-5 c = search needs
+
 numbers-requires : tie.Need-numbers-requires
 numbers-requires c κs = search needs
 
 recorded-requires : tie.Need-recorded-requires
 recorded-requires c κs = search needs
 
-returns-5 : tie.Need-returns-5
-returns-5 c = search needs
+returns-6 : tie.Need-returns-6
+returns-6 c = search needs
 
 numbered-requires : tie.Need-numbered-requires
 numbered-requires c κs = search needs
 
-returns-6 : tie.Need-returns-6
-returns-6 c = search needs
+returns-7 : tie.Need-returns-7
+returns-7 c = search needs
 
 pub answer-spec : {M : Type 1} → statement M
 answer-spec =
@@ -72,8 +78,10 @@ answer-spec =
     first-requires
     listed-requires
     returns-4
+    summed-requires
+    returns-5
     numbers-requires
     recorded-requires
-    returns-5
+    returns-6
     numbered-requires
-    returns-6)
+    returns-7)

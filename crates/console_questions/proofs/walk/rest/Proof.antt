@@ -3,7 +3,7 @@ use mathlib.Core.Path.{_≡_, ap, sym, _∙_}
 use Prim.Native.Nat.{ℕ, suc, _+_, _-_, _≤_}
 use native.Mathlib.Omega.{arith}
 use borrow.Author.Needs.{needs}
-use Rattle.elias_fano.specs.Accept.{times}
+use Rattle.elias_fano.specs.Accept.{times, ofValue}
 use Rattle.elias_fano_walk.specs.Walking.{WalkOver}
 use Rattle.console_text.specs.Gathered.{gathered}
 use Rattle.console_questions.specs.Questions.{withEach, nextsFrom}
@@ -45,7 +45,7 @@ loop-again c =
     let s = c .before .before .before .next in
     let to = c .before .next-shown in
     let e : a .count - l .i ≡ suc (a .count - (l .i + 1)) = omega arith in
-    (omega arith, s .ensures .0, l .inv .2 ∙ rest-more (times (a .image .now)) (gathered (l .to) (l .out)) (l .w .number) (s .result) _ (a .count - l .i) (a .count - (l .i + 1)) e (s .ensures .1) (to .ensures))
+    (omega arith, s .ensures .0, l .inv .2 ∙ rest-more (times (a .image .now)) (gathered (l .to) (l .out)) (l .w .number) (ofValue (s .result .value)) (s .result .walk .number) _ (a .count - l .i) (a .count - (l .i + 1)) e (s .ensures .1) (to .ensures))
 
 returns : tie.Need-returns Inv-loop μ-loop
 returns c =

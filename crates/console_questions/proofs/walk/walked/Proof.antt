@@ -3,7 +3,7 @@ use mathlib.Core.Path.{_≡_, sym, _∙_}
 use Prim.Native.Nat.{suc, _-_}
 use native.Mathlib.Omega.{arith}
 use borrow.Author.Needs.{needs}
-use Rattle.elias_fano.specs.Accept.{times}
+use Rattle.elias_fano.specs.Accept.{times, ofValue}
 use Rattle.console_text.specs.Gathered.{gathered}
 use Rattle.console_questions.proofs.Walks.{all-more, all-done}
 use Rattle.console_questions.proofs.walk.walked.Statement.{statement}
@@ -31,7 +31,7 @@ returns-2 c =
     let a = c .before .before .before .before .before .before .before .before .args in
     let s = c .before .before .before .before .before .next in
     let e : a .count ≡ suc (a .count - 1) = omega (arith, c .before .before .before .before .before .before .if1 .left) in
-    c .rest .ensures ∙ sym (all-more (times (a .image .now)) (gathered (a .at) (a .out .now)) (a .from .number) (s .result) _ (a .count) (a .count - 1) e (s .ensures .1) (c .before .before .shown .ensures))
+    c .rest .ensures ∙ sym (all-more (times (a .image .now)) (gathered (a .at) (a .out .now)) (a .from .number) (ofValue (s .result .value)) (s .result .walk .number) _ (a .count) (a .count - 1) e (s .ensures .1) (c .before .before .shown .ensures))
 
 pub walked-spec : {M : Type 1} → statement M
 walked-spec =

@@ -1,23 +1,25 @@
 -- `console_text::line::store` meets its contract. The invariant: what is left of the line goes after what is stored. Assumes nothing.
+use borrow.Author.Needs.{needs}
 use mathlib.Core.Path.{_≡_, refl, ap, sym, _∙_}
 use mathlib.Core.List.{List}
 use native.Mathlib.Omega.{arith}
 use borrow.Author.Needs.{needs}
 use Prim.Native.Nat.{ℕ, _+_, _-_, _≤_}
-use lib.ListN.{length, drop}
-use Rattle.console_text.specs.Line.{fields, storedFrom}
+use lib.ListN.{length, drop, length-set}
+use lib.Seq.{sets}
+use Rattle.console_text.specs.Line.{fields, valuesOf}
 use Rattle.console_text.proofs.Reading.{store-next, store-end}
 use Rattle.console_text.proofs.line.store.Statement.{statement}
 use Rattle.console_text.proofs.line.store.Tie as tie
 
 abbrev Inv-loop : tie.InvT-loop
-Inv-loop line end words₀ i₀ at₀ words i at = (i ≤ at) × (storedFrom 0 words₀ (fields (drop end line)) ≡ storedFrom i words (fields (drop at line)))
+Inv-loop line end words₀ i₀ at₀ words i at = (i ≤ at) × (length words ≡ length words₀) × (sets words₀ 0 (valuesOf (fields (drop end line))) ≡ sets words i (valuesOf (fields (drop at line))))
 
 abbrev μ-loop : tie.MeasureT-loop
 μ-loop line end words₀ i₀ at₀ words i at = length line - at
 
 loop-holds : tie.Need-loop-holds Inv-loop μ-loop
-loop-holds c = (omega arith, refl)
+loop-holds c = (omega arith, refl, refl)
 
 add-start : tie.Need-add-start Inv-loop μ-loop
 add-start c = search needs
@@ -48,19 +50,23 @@ loop-less c = search needs
 
 loop-again : tie.Need-loop-again Inv-loop μ-loop
 loop-again c =
-    let l = c .before .before .before .before .before .before .loop in
-    let a = c .before .before .before .before .before .before .before .before .args in
-    let w = c .before .before .before .before .word-end in (
+    let a = c .before .before .before .before .before .before .before .before .before .before .before .args in
+    let l = c .before .before .before .before .before .before .before .before .loop in
+    let w = c .before .before .before .before .before .before .word-end in
+    let x = c .before .before .before .value in
+    let p = c .before .before .put in (
       omega arith,
-      l .inv .1
-          ∙ store-next (a .line .now) (l .at) (w .result) (c .before .before .before .before .before .loop-test .taken) (w .ensures .1 .1) (l .i) (c .before .value .result) (l .words) (c .before .value .ensures)
-          ∙ ap (λ (ws : List ℕ). storedFrom (l .i + 1) ws (fields (drop (w .result) (a .line .now)))) (sym (c .put .ensures)),
+      ap length (p .ensures) ∙ length-set (l .words) (l .i) (x .result) ∙ l .inv .1,
+      l .inv .2
+          ∙ store-next (a .line .now) (l .at) (w .result) (c .before .before .before .before .before .before .before .loop-test .taken) (w .ensures .1 .1) (l .i) (x .result) (l .words) (x .ensures)
+          ∙ ap (λ (ws : List ℕ). sets ws (l .i + 1) (valuesOf (fields (drop (w .result) (a .line .now))))) (sym (p .ensures)),
     )
 
+same-length : tie.Need-same-length Inv-loop μ-loop
+same-length c = c .before .loop .inv .1
+
 returns : tie.Need-returns Inv-loop μ-loop
-returns c =
-    let l = c .before .loop in
-    sym (l .inv .1 ∙ store-end (c .before .before .before .args .line .now) (l .at) (c .loop-test .left) (l .i) (l .words))
+returns c = let l = c .before .loop in sym (l .inv .2 ∙ store-end (c .before .before .before .before .args .line .now) (l .at) (c .loop-test .left) (l .i) (l .words))
 
 pub store-spec : {M : Type 1} → statement M
 store-spec =
@@ -79,4 +85,5 @@ store-spec =
     add-i
     loop-less
     loop-again
+    same-length
     returns)
