@@ -214,6 +214,25 @@ TABLE = """
 1 len -> 5
 1 universe -> 8
 @ mii_sequences/elias_fano/iter.rs
+@ int_vectors/prefix_summed_elias_fano.rs
+0 buffer 13 0 -> ok
+0 sums 5 14 334 10 -> 10
+1 sums_access 0 -> 5
+1 sums_access 1 -> 14
+1 sums_access 2 -> 334
+1 sums_access 3 -> 10
+1 sums_len -> 4
+- sum 1
+0 sums 5 14 334 10 -> 10
+1 sums_len -> 4
+- sum 1
+0 sums 5 14 334 10 -> 10
+5 sums_walk 5 -> 5 14 334 10 none
+0 sums 5 14 334 -> 10
+1 sums_access 0 -> 5
+1 sums_access 1 -> 14
+1 sums_access 2 -> 334
+1 sums_access 3 -> none
 """
 
 

@@ -1,7 +1,9 @@
-"""The console's sections Words and Bits, and what it has of Record, plainly, over lists of bits and of times.
+"""The console's sections Words, Bits and Record, plainly, over lists of bits and of times.
 
 Written from the document that says what is right, not from the Rust: nothing here is clever, and nothing is shared with the crate.
 """
+
+from itertools import accumulate
 
 LINE = 65_536
 LENT = 4_096
@@ -257,12 +259,37 @@ class Record:
         times = settings.times(m, high, low)
         if times is None or (times and times[-1] != last):
             raise Refused(7)
-        image = settings.image(rank, times)
+        return self.write(settings.image(rank, times))
+
+    def write(self, image):
+        """The image stands at the front, and the later words stay; 3 where there are too few."""
         if len(image) > len(self.lent):
             raise Refused(3)
         self.lent[: len(image)] = image
         self.length, self.book, self.opened = len(image), None, None
         return len(image)
+
+    def sums(self, items):
+        """The record of the prefix sums; no items have no words."""
+        if not items:
+            self.length, self.opened = 0, None
+            return 0
+        if len(items) > MOST:
+            raise Refused(2)
+        if sum(items) >= TOP - 1:
+            raise Refused(12)
+        return self.write(Settings(1 + sum(items), len(items)).image(0, list(accumulate(items))))
+
+    def sums_access(self, p):
+        return self.delta(p) if self.length else None
+
+    def sums_len(self):
+        return self.len() if self.length else 0
+
+    def sums_walk(self, count):
+        if self.length:
+            self.accepted()
+        return [self.sums_access(p) for p in range(count)]
 
     def accepted(self):
         """The settings, the rank choice and the times of the image; 7 where it is none."""
@@ -380,7 +407,8 @@ class Console:
         except Bad:
             return "bad command"
         try:
-            return shown(getattr(self.record if name in RECORD else self, name)(*args))
+            held = self.record if name in RECORD and name != "from_bits" else self
+            return shown(getattr(held, name)(*args))
         except Refused as number_of:
             return f"refused {number_of}"
         except Bad:
@@ -397,6 +425,8 @@ class Console:
             if not 1 <= len(numbers) <= 1 + LENT:
                 raise Bad
             return name, (numbers[0], numbers[1:])
+        if name == "sums":
+            return name, ([number(w) for w in words[1:]],)
         if name == "unary":
             if len(words) < 2:
                 raise Bad
@@ -546,6 +576,17 @@ class Console:
     def index_select(self, b, k):
         return kth(places(self.vector(), b), k)
 
+    def from_bits(self, rank):
+        """The record of the places of the ones, into the buffer."""
+        times = places(self.vector(), 1)
+        if self.length == 0:
+            raise Refused(10)
+        if not times:
+            raise Refused(11)
+        if len(times) > MOST:
+            raise Refused(2)
+        return self.record.write(Settings(self.length, len(times)).image(rank, times))
+
 
 FORMS = {
     "popcount": (number,),
@@ -592,6 +633,11 @@ RECORD = {
     "has_rank": (),
     "walk": (number, few),
     "read": (number, few),
+    "from_bits": (choice,),
+    "sums": None,
+    "sums_access": (number,),
+    "sums_walk": (few,),
+    "sums_len": (),
 }
 
 

@@ -368,7 +368,7 @@ def add_questions(add, count):
         for line in equal(n, found)[0]:
             add(line)
     add.note("the smallest input of each difference from the Rust")
-    for _, smallest, _ in records.DIFFERENCES[records.BUILDING :]:
+    for _, smallest, _ in records.DIFFERENCES[records.BUILDING : records.ASKING]:
         for line in smallest:
             add(line)
     add.note("33 times 1: the Rust says none for a range past them, since its first half ends before")

@@ -1,8 +1,9 @@
 """The lines of the section Record, and how their answers are compared with the Rust.
 
-The Rust has no image: an image that the model accepts, or that a finish writes, is compared word for word with what the Rust
+The Rust has no image: an image that the model accepts, or that a call writes, is compared word for word with what the Rust
 builds of the same settings and times (`parts`), and each question over it with the Rust's. It has no reading out: a walk of as many steps is
 asked for it. It has a builder: a start, and readings and a finish while nothing but calls has altered the record since, are asked as they come.
+A record from bits or of prefix sums is asked as it comes, over the same bits.
 """
 
 import sys
@@ -14,6 +15,13 @@ MAX = TOP - 1
 
 # The questions that the Rust has, over an image.
 ASKED = ("select", "delta", "rank", "predecessor", "successor", "search", "search_range", "len", "universe", "has_rank", "walk", "read")
+
+# Those of the prefix sums, which no words answer too.
+ITEMS = ("sums_access", "sums_walk", "sums_len")
+
+# A record by one call, and what alters the bits that one of them is of.
+WHOLE = ("from_bits", "sums")
+BITS = ("bits", "from_bit", "set_bit", "push_bit", "push_bits")
 
 # Worked examples of the document, with the answers that it gives.
 
@@ -147,13 +155,33 @@ DIFFERENCES = [
         ["buffer 7 0", "start 0 1", "finish 0", "walk 0 0"],
         lambda c: c.name in ("walk", "read") and c.empty and c.rust == "panic",
     ),
+    (
+        "3, prefix sums and a record from bits allocate",
+        ["sums 0"],
+        lambda c: c.name in WHOLE and c.model == "refused 3" and c.rust == "ok",
+    ),
+    (
+        "12 is InvalidArgument in the Rust",
+        ["sums 18446744073709551615"],
+        lambda c: c.name == "sums" and c.model == "refused 12" and c.rust == "error InvalidArgument",
+    ),
+    (
+        "10 and 11 are InvalidArgument in the Rust",
+        ["bits 0", "from_bits 0"],
+        lambda c: c.name == "from_bits" and c.model in ("refused 10", "refused 11") and c.rust == "error InvalidArgument",
+    ),
+    (
+        "13 at a record from bits, no such bits in the Rust",
+        ["bits 1", "from_bits 0"],
+        lambda c: c.name == "from_bits" and c.model == "refused 13" and c.rust == "no vector",
+    ),
 ]
 
-# So many of them are of a start, a reading or a finish; the others are of questions.
-BUILDING = 5
+# So many of them are of a start, a reading or a finish, then of questions, then of the prefix sums; the others are of a record from bits.
+BUILDING, ASKING, SUMS = 5, 9, 11
 
 # A release build answers there as the port does.
-ONLY_IN_DEBUG = DIFFERENCES[-1][0]
+ONLY_IN_DEBUG = DIFFERENCES[ASKING - 1][0]
 
 
 class Case:
@@ -171,7 +199,7 @@ class Case:
             walked = self.rust.split(" ") if self.rust else []
             out = [t for t in walked if t != "none"]
             return self.model == " ".join([str(len(out)), *out, *["0"] * (len(walked) - len(out))])
-        if self.name == "finish" and self.model.isdigit():
+        if self.name in ("finish", *WHOLE) and self.model.isdigit():
             return self.rust == "ok"
         return self.model == self.rust
 
@@ -202,24 +230,53 @@ class Images:
         self.sent, self.cases, self.held = [], [], None
 
     def ask(self, line, name, answer, record):
-        settings, rank, times = record.accepted()
         words = record.lent[: record.length]
+        times = record.accepted()[2] if words else []
         if self.held != words:
-            self.sent += [*made(settings.u, settings.n, times), f"finish {rank}"]
-            self.cases.append(Case(line, "image", answer, len(self.sent), words))
-            self.sent.append("parts")
-            self.held = words
-        if name in ASKED:
+            self.hold(line, answer, words, times)
+        if name in (*ASKED, *ITEMS):
             self.cases.append(Case(line, name, answer, len(self.sent), empty=not times))
             self.sent.append(line.replace("read", "walk"))
+
+    def hold(self, line, answer, words, times):
+        """The Rust is to hold the record of these words; of no words, the prefix sums of no items."""
+        self.held = words
+        if not words:
+            self.sent.append("sums")
+            return
+        u, n, _, rank = words[:4]
+        self.sent += [*made(u, n, times), f"finish {rank}"]
+        self.cases.append(Case(line, "image", answer, len(self.sent), words))
+        self.sent.append("parts")
+
+
+class Wholes:
+    """Records by one call, of the bits as they are."""
+
+    def __init__(self):
+        self.sent, self.cases, self.bits = [], [], None
+
+    def ask(self, line, name, answer, console):
+        bits = " ".join(map(str, ["bits", console.length, *console.words]))
+        if name == "from_bits" and self.bits != bits:
+            self.sent.append(bits)
+            self.bits = bits
+        self.cases.append(Case(line, name, answer, len(self.sent)))
+        self.sent.append(line)
+        words = console.record.lent[: console.record.length]
+        if answer.isdigit() and words:
+            self.cases.append(Case(line, "image", answer, len(self.sent), words))
+            self.sent.append("parts")
 
 
 def compare(oracle, lines):
     """How often each difference was seen, and how many calls agree of how many."""
-    console, builders, images = Console(), Builders(), Images()
+    console, builders, images, wholes = Console(), Builders(), Images(), Wholes()
     for raw in lines:
         line = raw.decode("latin-1")
         name, record = line.split(" ")[0], console.record
+        if name in BITS:
+            console.line(raw)
         if name not in RECORD:
             continue
         before = None if record.book is None else (*record.made[:2], list(record.book) if name == "start" else ())
@@ -228,11 +285,13 @@ def compare(oracle, lines):
             continue
         if name in ("start", "reading", "finish"):
             builders.ask(line, name, answer, before)
+        if name in WHOLE:
+            wholes.ask(line, name, answer, console)
         refused = answer == "refused 7" if name in ASKED else answer.startswith("refused")
-        if name in ("finish", "open", *ASKED) and not refused:
+        if name in ("finish", "open", *ASKED, *ITEMS) and not refused:
             images.ask(line, name, answer, record)
     seen, agreed, asked = [0] * len(DIFFERENCES), 0, 0
-    for stream in (builders, images):
+    for stream in (builders, images, wholes):
         told = ask(oracle, stream.sent)
         for case in stream.cases:
             case.rust = told[case.at]
@@ -243,7 +302,7 @@ def compare(oracle, lines):
             kinds = [i for i, (_, _, holds) in enumerate(DIFFERENCES) if holds(case)]
             if len(kinds) != 1:
                 names = [DIFFERENCES[i][0] for i in kinds]
-                sys.exit(f"{case.line}: a difference with {len(kinds)} names {names}\n  model {case.model}\n  Rust  {case.rust[:200]}")
+                sys.exit(f"{case.line[:200]}: a difference with {len(kinds)} names {names}\n  model {case.model[:200]}\n  Rust  {case.rust[:200]}")
             seen[kinds[0]] += 1
     return seen, agreed, asked
 

@@ -16,8 +16,10 @@ import sys
 
 sys.dont_write_bytecode = True
 import documented
+import from_bits
 import questions
 import records
+import sums
 from model import LENT, LINE, RECORD, TOP, Console, used_words
 from rust import ask, image
 
@@ -989,6 +991,7 @@ def make(seed, count):
     add_random(add, count)
     records.add_records(add, count // 10)
     questions.add_questions(add, count // 13)
+    sums.add_sums(add, count // 20)
     for line in documented.lines():
         add(line)
     add.note("the last line lacks its line feed")
@@ -1038,6 +1041,8 @@ def main():
     check_examples(oracle)
     records.check_examples(oracle)
     questions.check_examples()
+    for table in (sums.EXAMPLES, from_bits.EXAMPLES):
+        records.hold(table)
     held, others = documented.check()
     check_records(oracle)
     check_tables(oracle)
@@ -1046,7 +1051,7 @@ def main():
     record = records.compare(oracle, lines)
     if args.exhaustive:
         bits = together(bits, compare(oracle, exhaustive())[1:])
-        for lines_of in (records.exhaustive(), questions.exhaustive()):
+        for lines_of in (records.exhaustive(), questions.exhaustive(), sums.exhaustive(), from_bits.exhaustive()):
             record = together(record, records.compare(oracle, lines_of))
     written = [a for a in answers if a is not None]
     if not args.exhaustive:
