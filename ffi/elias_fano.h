@@ -35,17 +35,18 @@ extern "C" {
 #endif
 
 /* Refusals. A refused call alters no word, and says why; 0 is no refusal. They are tested in this order: ef_new 1, 2, 3; ef_push 7, 3, 4,
- * 5, 6; ef_build 7 by the builder's numbers, 3 by the size of the start, 7 by the words, 3 by the image's length. */
+ * 5, 6; ef_build 7 by the builder's numbers, 3 by the size of the start, 7 by the words, 3 by the image's length; ef_sums_from_slice 2, 12, 3. */
 enum {
     EF_NO_VALUES = 1,       /* ef_new: num_vals is 0 */
-    EF_TOO_MANY = 2,        /* ef_new: num_vals is over 16,777,216 */
-    EF_SHORT_BUFFER = 3,    /* ef_new, ef_push, ef_build: below the size of the start; ef_build also below the image's length */
+    EF_TOO_MANY = 2,        /* ef_new: num_vals is over 16,777,216; ef_sums_from_slice: there are more items */
+    EF_SHORT_BUFFER = 3,    /* ef_new, ef_push, ef_build: below the size of the start; ef_build, ef_sums_from_slice: below the image's length */
     EF_DECREASING = 4,      /* ef_push: the value is below the last one */
     EF_OUT_OF_UNIVERSE = 5, /* ef_push: the value is not below the universe */
     EF_FULL = 6,            /* ef_push: num_vals values were pushed */
     EF_INVALID = 7,         /* no run leaves such a builder (ef_push, ef_build), such words (ef_build) or such an image (all that take one) */
     EF_NO_RANK_INDEX = 8,   /* ef_rank, ef_predecessor, ef_successor: the image was built without rank */
-    EF_RANGE = 9            /* ef_binsearch_range: a range that is not empty ends past the values */
+    EF_RANGE = 9,           /* ef_binsearch_range: a range that is not empty ends past the values */
+    EF_SUM_TOO_LARGE = 12   /* ef_sums_from_slice: the sum is 2^64 - 1 or more */
 };
 
 /* How far a record is written: 32 bytes. It may be copied and stored; one that no run leaves, as all zeros, is refused with 7. */
@@ -142,6 +143,26 @@ EfAnswer ef_ranks(const uint64_t *image, size_t len, const uint64_t *values, siz
 EfAnswer ef_predecessors(const uint64_t *image, size_t len, const uint64_t *values, size_t count, uint64_t *out, size_t out_len);
 EfAnswer ef_successors(const uint64_t *image, size_t len, const uint64_t *values, size_t count, uint64_t *out, size_t out_len);
 EfAnswer ef_binsearches(const uint64_t *image, size_t len, const uint64_t *values, size_t count, uint64_t *out, size_t out_len);
+
+/* ---- prefix sums
+ *
+ * A list of items, in any order, by the sums of its first one, two, three and so on: they are the values of an image whose universe is 1 plus the
+ * sum, without rank. `buffer` must have its length, with n the number of items and u as said. No items are accepted and have no words: the
+ * answer is 0, and the three questions take an image of length 0 (all others refuse it with 7). They take every other image too: an item
+ * is the difference of two neighbouring values. */
+
+/* Makes the image of the items. The answer is its length: it stands in the first words of the buffer, and the later ones stay. */
+EfAnswer ef_sums_from_slice(const uint64_t *items, size_t count, uint64_t *buffer, size_t len);
+
+/* The item at the place pos, counted from 0; EF_NONE from the number of items on. */
+EfAnswer ef_sums_access(const uint64_t *image, size_t len, size_t pos);
+
+/* How many items there are. */
+EfAnswer ef_sums_len(const uint64_t *image, size_t len);
+
+/* Writes the items from the place k on to `out`, as many as there are or as it takes, and answers how many. The later words stay. 7 is decided
+ * once, and each item costs a step of a walk: who wants all of them asks so. */
+EfAnswer ef_sums_read(const uint64_t *image, size_t len, size_t k, uint64_t *out, size_t out_len);
 
 #ifdef __cplusplus
 }

@@ -1,5 +1,5 @@
 /* A record of burner starts in C: written, finished, asked every question, kept in a file, refused once for each reason, and how long its
- * buffers must be. `ffi/run` builds and runs it. */
+ * buffers must be; and a list of items by its prefix sums. `ffi/run` builds and runs it. */
 #include "elias_fano.h"
 #include <inttypes.h>
 #include <stdio.h>
@@ -261,6 +261,34 @@ static void kept(const uint64_t *w, size_t len) {
     fclose(file);
 }
 
+/* ---- prefix sums */
+
+static void prefix_sums(void) {
+    static const uint64_t items[] = {3, 0, 5};
+    static const uint64_t expected[] = {9, 3, 3, 0, 0, 0, 70, 3, 1, 0};
+    static const uint64_t large[] = {UINT64_MAX - 1, 1};
+    uint64_t w[12], out[5];
+    for (size_t i = 0; i < 12; i++) {
+        w[i] = 7;
+    }
+    must(is_refused(ef_sums_from_slice(items, 3, w, 9), EF_SHORT_BUFFER) && w[0] == 7, "items in a short buffer");
+    must(is_refused(ef_sums_from_slice(large, 2, w, 0), EF_SUM_TOO_LARGE), "a sum of 2^64 - 1");
+    must(is_value(ef_sums_from_slice(items, 3, w, 12), 10) && image_words(w) == 10, "the image of the items");
+    must(memcmp(w, expected, sizeof expected) == 0 && w[10] == 7, "its words, and the one after them");
+    must(is_value(ef_universe(w, 10), 9) && is_value(ef_select(w, 10, 2), 8) && is_refused(ef_rank(w, 10, 3), EF_NO_RANK_INDEX), "a record of sums");
+
+    must(is_value(ef_sums_len(w, 10), 3) && is_value(ef_sums_access(w, 10, 2), 5) && is_none(ef_sums_access(w, 10, 3)), "an item");
+    out[2] = 9;
+    must(is_value(ef_sums_read(w, 10, 1, out, 5), 2) && out[0] == 0 && out[1] == 5 && out[2] == 9, "the items from the second on");
+    must(is_value(ef_sums_read(w, 10, 0, out, 1), 1) && out[0] == 3 && is_value(ef_sums_read(w, 10, 3, out, 5), 0), "one item, and none");
+    w[6] ^= 1;
+    must(is_refused(ef_sums_read(w, 10, 0, out, 5), EF_INVALID) && out[0] == 3, "items of a changed image");
+
+    must(is_value(ef_sums_from_slice(items, 0, w, 12), 0), "no items");
+    must(is_value(ef_sums_len(w, 0), 0) && is_none(ef_sums_access(w, 0, 0)) && is_value(ef_sums_read(w, 0, 0, out, 5), 0), "no words");
+    must(is_refused(ef_len(w, 0), EF_INVALID), "a record question of no words");
+}
+
 int main(void) {
     uint64_t image[16];
     size_t len = image_of_four(true, image, 16);
@@ -270,6 +298,7 @@ int main(void) {
     many_questions(image, len);
     without_rank();
     kept(image, len);
+    prefix_sums();
     sizes(20, 4, 4, 3, true);
     sizes(0, 1, 0, 0, true);
     sizes(UINT64_MAX, 1, 1, 0, true);

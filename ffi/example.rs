@@ -1,4 +1,5 @@
-// A record of burner starts in Rust, over the same library, asked every question. `ffi/run` builds and runs it.
+// A record of burner starts in Rust, over the same library, asked every question, and the gaps between them by their prefix sums. `ffi/run` builds
+// and runs it.
 #[repr(C)]
 #[derive(Clone, Debug, PartialEq)]
 struct EfBuilder {
@@ -36,6 +37,7 @@ enum Refusal {
     Invalid,
     NoRankIndex,
     Range,
+    SumTooLarge,
 }
 
 fn refusal(number: u64) -> Refusal {
@@ -49,6 +51,7 @@ fn refusal(number: u64) -> Refusal {
         7 => Refusal::Invalid,
         8 => Refusal::NoRankIndex,
         9 => Refusal::Range,
+        12 => Refusal::SumTooLarge,
         _ => unreachable!("the library has no other refusal"),
     }
 }
@@ -76,6 +79,10 @@ extern "C" {
     fn ef_predecessors(image: *const u64, len: usize, values: *const u64, count: usize, out: *mut u64, out_len: usize) -> EfAnswer;
     fn ef_successors(image: *const u64, len: usize, values: *const u64, count: usize, out: *mut u64, out_len: usize) -> EfAnswer;
     fn ef_binsearches(image: *const u64, len: usize, values: *const u64, count: usize, out: *mut u64, out_len: usize) -> EfAnswer;
+    fn ef_sums_from_slice(items: *const u64, count: usize, buffer: *mut u64, len: usize) -> EfAnswer;
+    fn ef_sums_access(image: *const u64, len: usize, pos: usize) -> EfAnswer;
+    fn ef_sums_len(image: *const u64, len: usize) -> EfAnswer;
+    fn ef_sums_read(image: *const u64, len: usize, k: usize, out: *mut u64, out_len: usize) -> EfAnswer;
 }
 
 /// A value, a plain none, or a refusal.
@@ -219,6 +226,41 @@ fn other_questions(image: &[u64], times: &[u64], universe: u64) {
     assert_eq!(read_from(image, n, &mut out), Ok(Some(0)));
 }
 
+fn sums_from_slice(items: &[u64], buffer: &mut [u64]) -> Answer {
+    answer(unsafe { ef_sums_from_slice(items.as_ptr(), items.len(), buffer.as_mut_ptr(), buffer.len()) })
+}
+
+fn sums_read(image: &[u64], k: usize, out: &mut [u64]) -> Answer {
+    answer(unsafe { ef_sums_read(image.as_ptr(), image.len(), k, out.as_mut_ptr(), out.len()) })
+}
+
+/// The items by their prefix sums: every item again, by place and all at once. `record` is the image of the sums, with rank.
+fn prefix_sums(items: &[u64], record: &[u64]) {
+    let n = items.len();
+    let mut buffer = vec![u64::MAX; record.len()];
+    let len = sums_from_slice(items, &mut buffer).unwrap().unwrap() as usize;
+    assert_eq!(buffer[len..], vec![u64::MAX; record.len() - len]);
+    let mut short = buffer.clone();
+    assert_eq!(sums_from_slice(items, &mut short[..len - 1]), Err(Refusal::ShortBuffer));
+    assert_eq!(short, buffer);
+    assert_eq!(sums_from_slice(&[u64::MAX], &mut short), Err(Refusal::SumTooLarge));
+    for image in [&buffer[..len], record] {
+        assert_eq!(plain(ef_sums_len, image), Ok(Some(n as u64)));
+        for k in (0..n).step_by(97) {
+            assert_eq!(by_number(ef_sums_access, image, k), Ok(Some(items[k])));
+        }
+        assert_eq!(by_number(ef_sums_access, image, n), Ok(None));
+        let mut out = vec![u64::MAX; n + 2];
+        assert_eq!(sums_read(image, 0, &mut out), Ok(Some(n as u64)));
+        assert_eq!((&out[..n], &out[n..]), (items, &[u64::MAX; 2][..]));
+        assert_eq!(sums_read(image, 1_000, &mut out[..7]), Ok(Some(7)));
+        assert_eq!(out[..7], items[1_000..1_007]);
+        assert_eq!(sums_read(&image[1..], 0, &mut out), Err(Refusal::Invalid));
+    }
+    assert_eq!(sums_from_slice(&[], &mut buffer), Ok(Some(0)));
+    assert_eq!((plain(ef_sums_len, &[]), by_number(ef_sums_access, &[], 0), sums_read(&[], 0, &mut short)), (Ok(Some(0)), Ok(None), Ok(Some(0))));
+}
+
 // What ef_new zeroes, as in elias_fano.h.
 fn start_words(u: u64, n: u64) -> usize {
     let l = (u / n).checked_ilog2().unwrap_or(0);
@@ -268,6 +310,7 @@ fn main() {
     assert_eq!(select(&[], 0), Err(Refusal::Invalid));
     questions(image, &times, now + 1);
     other_questions(image, &times, now + 1);
+    prefix_sums(&(0..times.len()).map(|k| gap(&times, k).unwrap()).collect::<Vec<_>>(), image);
     // a file has 8 bytes a word, little end first
     let file: Vec<u8> = image.iter().flat_map(|w| w.to_le_bytes()).collect();
     let read: Vec<u64> = file.chunks(8).map(|b| u64::from_le_bytes(b.try_into().unwrap())).collect();

@@ -17,7 +17,7 @@ use Rattle.elias_fano.specs.declared.image.Opened.{Opened}
 use Rattle.elias_fano.specs.declared.image.Opened.the-variants as opened
 use Rattle.elias_fano.specs.declared.image.Parts.{Parts}
 use Rattle.elias_fano.specs.Accept.{Opening, ofOpened}
-use Rattle.elias_fano.specs.Made.{Made, made, ofPushed, ofBuilt}
+use Rattle.elias_fano.specs.Made.{Made, made, ofPushed, ofBuilt, builtAnswer}
 use Rattle.elias_fano_queries.specs.declared.header.Truth.{Truth}
 use Rattle.elias_fano_queries.specs.declared.header.Truth.the-variants as truth
 use Rattle.elias_fano_queries.specs.Truth.{ofTruth}
@@ -56,15 +56,18 @@ refused-told b p e k w q h = ap (λ (a : Answer). made a b w) (refusal-is k e h)
 
 -- ---- a finish
 
-module _ (b c : Builder) (ec : c ≡ b) (r : Built) (w : List ℕ) (m : Builder → Made) (er : ofBuilt c r w ≡ m c) where
-  moved : ofBuilt b r w ≡ m b
-  moved = subst (λ (x : Builder). ofBuilt x r w ≡ m x) ec er
+answer-is : (b : Builder) (r : Built) (w : List ℕ) → builtAnswer r ≡ ofBuilt b r w .answer
+answer-is b (built.Words k) w = refl
+answer-is b (built.Refused e) w = refl
 
-  pub words-told : (k : ℕ) → r ≡ built.Words k → made (value k) b w ≡ m b
-  words-told k e = sym (ap (λ (x : Built). ofBuilt b x w) e) ∙ moved
+words-are : (b : Builder) (r : Built) (w : List ℕ) → w ≡ ofBuilt b r w .words
+words-are b (built.Words k) w = refl
+words-are b (built.Refused e) w = refl
 
-  pub no-words-told : (e : Refusal) (k : ℕ) → r ≡ built.Refused e → k ≡ numberOf e → made (refused k) b w ≡ m b
-  no-words-told e k q h = ap (λ (x : ℕ). made (refused x) b w) h ∙ sym (ap (λ (x : Built). ofBuilt b x w) q) ∙ moved
+pub finish-told : (b c : Builder) → c ≡ b → (r : Built) (w : List ℕ) (m : Builder → Made) → ofBuilt c r w ≡ m c → (efAnswer (builtAnswer r) ≡ efAnswer (m b .answer)) × (w ≡ m b .words)
+finish-told b c ec r w m er =
+    let e : ofBuilt b r w ≡ m b = subst (λ (x : Builder). ofBuilt x r w ≡ m x) ec er in
+    (ap efAnswer (answer-is b r w ∙ ap (λ (x : Made). x .answer) e), words-are b r w ∙ ap (λ (x : Made). x .words) e)
 
 -- ---- opening
 

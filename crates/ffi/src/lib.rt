@@ -1,7 +1,7 @@
-// The record for C and Rust: a static library, thin over `elias_fano`, `elias_fano_queries` and `elias_fano_walk`. ffi/elias_fano.h says it
-// in C, with who owns which words.
+// The record for C and Rust: a static library, thin over `elias_fano`, `elias_fano_queries`, `elias_fano_walk` and `prefix_summed_elias_fano`.
+// ffi/elias_fano.h says it in C, with who owns which words.
 //
-// Here a record is written and opened; `ask` has one question a call, `many` as many as an array holds.
+// Here a record is written and opened; `ask` has one question a call, `many` as many as an array holds, `sums` the prefix sums.
 ghost use mathlib.Core.Path.{_≡_};
 ghost use Rattle.elias_fano.specs.Accept.{openOf};
 ghost use Rattle.elias_fano.specs.Made.{made};
@@ -10,11 +10,12 @@ ghost use Rattle.ffi.specs.Answers.{ofBuilder, ofRefusal, efAnswer, efOp
 
 mod ask;
 mod many;
+mod sums;
 mod tell;
 
+use crate::tell::tell_built;
 use elias_fano::builder;
 use elias_fano::builder::Builder;
-use elias_fano::builder::Built;
 use elias_fano::builder::Pushed;
 use elias_fano::image;
 use elias_fano::image::Opened;
@@ -116,16 +117,7 @@ pub extern "C" fn ef_push(b: EfBuilder, val: u64, buffer: &mut [u64]) -> EfPushe
 pub extern "C" fn ef_build(b: EfBuilder, rank: bool, buffer: &mut [u64]) -> EfAnswer
     ensures { λ r. ⌜ ((r ≡ efAnswer (buildOf (ofBuilder b) rank (now (buffer .entry)) .answer)) × (now (buffer .exit) ≡ buildOf (ofBuilder b) rank (now (buffer .entry)) .words)) ⌝ }
 {
-    match builder::build(inner(b), rank, &mut *buffer) {
-        Built::Words(k) => EfAnswer {
-            kind: EF_VALUE,
-            value: k as u64,
-        },
-        Built::Refused(e) => EfAnswer {
-            kind: EF_REFUSED,
-            value: number(e),
-        },
-    }
+    tell_built(builder::build(inner(b), rank, &mut *buffer))
 }
 
 // Decides whether an image is one that some run writes: 0, or the refusal's number.

@@ -1,12 +1,14 @@
 // Each answer as C has it: its kind, and the value or the refusal's number.
 ghost use mathlib.Core.Path.{_≡_};
 ghost use Rattle.elias_fano.specs.Accept.{ofNumber, ofValue};
+ghost use Rattle.elias_fano.specs.Made.{builtAnswer};
 ghost use Rattle.elias_fano_queries.specs.Truth.{ofTruth};
 ghost use Rattle.ffi.specs.Answers.{efAnswer};
 use crate::EF_NONE;
 use crate::EF_REFUSED;
 use crate::EF_VALUE;
 use crate::EfAnswer;
+use elias_fano::builder::Built;
 use elias_fano::image::Number;
 use elias_fano::image::Value;
 use elias_fano_queries::header::Truth;
@@ -60,6 +62,22 @@ pub fn tell_truth(t: Truth) -> EfAnswer
             value: if yes { 1 } else { 0 },
         },
         Truth::Refused(e) => EfAnswer {
+            kind: EF_REFUSED,
+            value: number(e),
+        },
+    }
+}
+
+// The length of an image.
+pub fn tell_built(b: Built) -> EfAnswer
+    ensures { λ r. ⌜ r ≡ efAnswer (builtAnswer b) ⌝ }
+{
+    match b {
+        Built::Words(k) => EfAnswer {
+            kind: EF_VALUE,
+            value: k as u64,
+        },
+        Built::Refused(e) => EfAnswer {
             kind: EF_REFUSED,
             value: number(e),
         },
