@@ -35,18 +35,22 @@ extern "C" {
 #endif
 
 /* Refusals. A refused call alters no word, and says why; 0 is no refusal. They are tested in this order: ef_new 1, 2, 3; ef_push 7, 3, 4,
- * 5, 6; ef_build 7 by the builder's numbers, 3 by the size of the start, 7 by the words, 3 by the image's length; ef_sums_from_slice 2, 12, 3. */
+ * 5, 6; ef_build 7 by the builder's numbers, 3 by the size of the start, 7 by the words, 3 by the image's length; ef_from_bits 13, 10, 11, 2, 3;
+ * ef_sums_from_slice 2, 12, 3. */
 enum {
     EF_NO_VALUES = 1,       /* ef_new: num_vals is 0 */
-    EF_TOO_MANY = 2,        /* ef_new: num_vals is over 16,777,216; ef_sums_from_slice: there are more items */
-    EF_SHORT_BUFFER = 3,    /* ef_new, ef_push, ef_build: below the size of the start; ef_build, ef_sums_from_slice: below the image's length */
+    EF_TOO_MANY = 2,        /* ef_new: num_vals is over 16,777,216; ef_from_bits, ef_sums_from_slice: there are more ones or items */
+    EF_SHORT_BUFFER = 3,    /* ef_new, ef_push, ef_build: below the size of the start; all that make an image: below its length */
     EF_DECREASING = 4,      /* ef_push: the value is below the last one */
     EF_OUT_OF_UNIVERSE = 5, /* ef_push: the value is not below the universe */
     EF_FULL = 6,            /* ef_push: num_vals values were pushed */
     EF_INVALID = 7,         /* no run leaves such a builder (ef_push, ef_build), such words (ef_build) or such an image (all that take one) */
     EF_NO_RANK_INDEX = 8,   /* ef_rank, ef_predecessor, ef_successor: the image was built without rank */
     EF_RANGE = 9,           /* ef_binsearch_range: a range that is not empty ends past the values */
-    EF_SUM_TOO_LARGE = 12   /* ef_sums_from_slice: the sum is 2^64 - 1 or more */
+    EF_NO_BITS = 10,        /* ef_from_bits: there are 0 bits */
+    EF_NO_ONES = 11,        /* ef_from_bits: none of them is 1 */
+    EF_SUM_TOO_LARGE = 12,  /* ef_sums_from_slice: the sum is 2^64 - 1 or more */
+    EF_INVALID_BITS = 13    /* ef_from_bits: the words are too few for the bits, or a bit past them in the last word used is 1 */
 };
 
 /* How far a record is written: 32 bytes. It may be copied and stored; one that no run leaves, as all zeros, is refused with 7. */
@@ -84,6 +88,11 @@ EfPushed ef_push(EfBuilder builder, uint64_t value, uint64_t *buffer, size_t len
  * Accepted, the builder is done: set it to zeros, or lose it. A push by the old one into these words is not refused, and what it leaves is
  * no image (ef_open says 7). To read a record that goes on, build it in a copy of the words of the start. */
 EfAnswer ef_build(EfBuilder builder, bool rank, uint64_t *buffer, size_t len);
+
+/* Makes the image of a bit vector at once: its values are the places of the ones among the first num_bits bits of `bits`, bit i of word j being the place
+ * 64 * j + i; the universe is num_bits, and num_vals the number of ones. The answer is the image's length: it stands in the first words of the buffer,
+ * and the later ones stay. Words of `bits` after the last one used are not read. */
+EfAnswer ef_from_bits(const uint64_t *bits, size_t len, size_t num_bits, bool rank, uint64_t *buffer, size_t buffer_len);
 
 /* 0 if the words are an image that some run writes, else 7. `len` is the image's length, no more and no less. Linear time. */
 uint64_t ef_open(const uint64_t *image, size_t len);

@@ -1,5 +1,5 @@
 /* A record of burner starts in C: written, finished, asked every question, kept in a file, refused once for each reason, and how long its
- * buffers must be; and a list of items by its prefix sums. `ffi/run` builds and runs it. */
+ * buffers must be; a record from bits, and a list of items by its prefix sums. `ffi/run` builds and runs it. */
 #include "elias_fano.h"
 #include <inttypes.h>
 #include <stdio.h>
@@ -261,6 +261,27 @@ static void kept(const uint64_t *w, size_t len) {
     fclose(file);
 }
 
+/* ---- a record from bits */
+
+static void from_bits(void) {
+    static const uint64_t bits[] = {8216, 99}; /* places 3, 4 and 13; the second word is not read */
+    static const uint64_t padded[] = {8216 + (1 << 20)};
+    static const uint64_t zeros[] = {0};
+    uint64_t w[16], out[4];
+    for (size_t i = 0; i < 16; i++) {
+        w[i] = 7;
+    }
+    must(is_refused(ef_from_bits(bits, 1, 65, true, w, 16), EF_INVALID_BITS), "too few words for the bits");
+    must(is_refused(ef_from_bits(padded, 1, 20, true, w, 16), EF_INVALID_BITS), "a bit past the last");
+    must(is_refused(ef_from_bits(bits, 2, 0, true, w, 16), EF_NO_BITS), "no bits");
+    must(is_refused(ef_from_bits(zeros, 1, 64, true, w, 16), EF_NO_ONES), "no ones");
+    must(is_refused(ef_from_bits(bits, 2, 20, true, w, 11), EF_SHORT_BUFFER) && w[0] == 7, "bits in a short buffer");
+    must(is_value(ef_from_bits(bits, 2, 20, true, w, 16), 12) && image_words(w) == 12 && w[12] == 7, "the image of the bits, and the word after it");
+    must(ef_open(w, 12) == 0 && is_value(ef_universe(w, 12), 20) && is_value(ef_rank(w, 12, 14), 3), "a record of places");
+    must(is_value(ef_read_from(w, 12, 0, out, 4), 3) && out[0] == 3 && out[1] == 4 && out[2] == 13, "the places");
+    must(is_value(ef_from_bits(bits, 2, 20, false, w, 16), 10) && is_refused(ef_rank(w, 10, 14), EF_NO_RANK_INDEX), "the image without rank");
+}
+
 /* ---- prefix sums */
 
 static void prefix_sums(void) {
@@ -298,6 +319,7 @@ int main(void) {
     many_questions(image, len);
     without_rank();
     kept(image, len);
+    from_bits();
     prefix_sums();
     sizes(20, 4, 4, 3, true);
     sizes(0, 1, 0, 0, true);

@@ -1,5 +1,5 @@
-// A record of burner starts in Rust, over the same library, asked every question, and the gaps between them by their prefix sums. `ffi/run` builds
-// and runs it.
+// A record of burner starts in Rust, over the same library, asked every question, the same from bits, and the gaps between them by their prefix
+// sums. `ffi/run` builds and runs it.
 #[repr(C)]
 #[derive(Clone, Debug, PartialEq)]
 struct EfBuilder {
@@ -37,7 +37,10 @@ enum Refusal {
     Invalid,
     NoRankIndex,
     Range,
+    NoBits,
+    NoOnes,
     SumTooLarge,
+    InvalidBits,
 }
 
 fn refusal(number: u64) -> Refusal {
@@ -51,7 +54,10 @@ fn refusal(number: u64) -> Refusal {
         7 => Refusal::Invalid,
         8 => Refusal::NoRankIndex,
         9 => Refusal::Range,
+        10 => Refusal::NoBits,
+        11 => Refusal::NoOnes,
         12 => Refusal::SumTooLarge,
+        13 => Refusal::InvalidBits,
         _ => unreachable!("the library has no other refusal"),
     }
 }
@@ -79,6 +85,7 @@ extern "C" {
     fn ef_predecessors(image: *const u64, len: usize, values: *const u64, count: usize, out: *mut u64, out_len: usize) -> EfAnswer;
     fn ef_successors(image: *const u64, len: usize, values: *const u64, count: usize, out: *mut u64, out_len: usize) -> EfAnswer;
     fn ef_binsearches(image: *const u64, len: usize, values: *const u64, count: usize, out: *mut u64, out_len: usize) -> EfAnswer;
+    fn ef_from_bits(bits: *const u64, len: usize, num_bits: usize, rank: bool, buffer: *mut u64, buffer_len: usize) -> EfAnswer;
     fn ef_sums_from_slice(items: *const u64, count: usize, buffer: *mut u64, len: usize) -> EfAnswer;
     fn ef_sums_access(image: *const u64, len: usize, pos: usize) -> EfAnswer;
     fn ef_sums_len(image: *const u64, len: usize) -> EfAnswer;
@@ -226,6 +233,35 @@ fn other_questions(image: &[u64], times: &[u64], universe: u64) {
     assert_eq!(read_from(image, n, &mut out), Ok(Some(0)));
 }
 
+fn image_of_bits(bits: &[u64], num_bits: usize, rank: bool, buffer: &mut [u64]) -> Answer {
+    answer(unsafe { ef_from_bits(bits.as_ptr(), bits.len(), num_bits, rank, buffer.as_mut_ptr(), buffer.len()) })
+}
+
+/// The record of these places below the universe by one call is word for word the one by pushes, with rank and without.
+fn from_bits(places: &[u64], universe: usize) {
+    let mut bits = vec![0; universe.div_ceil(64)];
+    for &p in places {
+        bits[p as usize / 64] |= 1 << (p % 64);
+    }
+    for rank in [false, true] {
+        let mut pushed = vec![7; 3 * start_words(universe as u64, places.len() as u64) + 99];
+        let mut b = new(universe as u64, places.len() as u64, &mut pushed).unwrap();
+        for &p in places {
+            push(&mut b, p, &mut pushed).unwrap();
+        }
+        let len = build(b, rank, &mut pushed).unwrap();
+        let mut buffer = vec![7; len + 1];
+        assert_eq!(image_of_bits(&bits, universe, rank, &mut buffer[..len - 1]), Err(Refusal::ShortBuffer));
+        assert_eq!(buffer, vec![7; len + 1]);
+        assert_eq!(image_of_bits(&bits, universe, rank, &mut buffer), Ok(Some(len as u64)));
+        assert!(buffer[..len] == pushed[..len] && buffer[len] == 7);
+    }
+    let short = bits.len() - 1;
+    assert_eq!(image_of_bits(&bits[..short], universe, true, &mut []), Err(Refusal::InvalidBits));
+    assert_eq!(image_of_bits(&bits, 0, true, &mut []), Err(Refusal::NoBits));
+    assert_eq!(image_of_bits(&[0], 64, true, &mut []), Err(Refusal::NoOnes));
+}
+
 fn sums_from_slice(items: &[u64], buffer: &mut [u64]) -> Answer {
     answer(unsafe { ef_sums_from_slice(items.as_ptr(), items.len(), buffer.as_mut_ptr(), buffer.len()) })
 }
@@ -311,6 +347,12 @@ fn main() {
     questions(image, &times, now + 1);
     other_questions(image, &times, now + 1);
     prefix_sums(&(0..times.len()).map(|k| gap(&times, k).unwrap()).collect::<Vec<_>>(), image);
+    // starts of different seconds; then a block of zeros, and blocks of ones, too far apart for 16 bits
+    let mut places = times.clone();
+    places.dedup();
+    from_bits(&places, now as usize + 1);
+    from_bits(&(0..70_000).collect::<Vec<_>>(), 1 << 23);
+    from_bits(&(0..60_000).chain(188_003..218_003).collect::<Vec<_>>(), 1 << 18);
     // a file has 8 bytes a word, little end first
     let file: Vec<u8> = image.iter().flat_map(|w| w.to_le_bytes()).collect();
     let read: Vec<u64> = file.chunks(8).map(|b| u64::from_le_bytes(b.try_into().unwrap())).collect();

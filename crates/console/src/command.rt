@@ -111,10 +111,28 @@ fn asked(name: &[u8], r: Arguments, image: &[u64]) -> Reply {
     console_sums::answer(name, r, image)
 }
 
+// What alters what is held of the record: `from_bits`, which is of the console's bits, or another.
+fn altered(
+    name: &[u8],
+    r: Arguments,
+    bits: &[u64],
+    len: usize,
+    buffer: &mut [u64],
+    held: Record,
+) -> console_record::Told {
+    let told = console_sums::bits::answer(name, r, bits, len, &mut *buffer, held);
+    let reply = told.reply;
+    if output::is_known(reply) {
+        return told;
+    }
+    console_record::answer(name, r, &mut *buffer, held)
+}
+
 // The section Record: a question over the image, or what alters what is held.
 fn of_record(
     name: &[u8],
     r: Arguments,
+    bits: &[u64],
     buffer: &mut [u64; 65536],
     out: &mut [u8; 65536],
     s: State,
@@ -126,7 +144,7 @@ fn of_record(
         t.at = output::reply_line(out, s.at, question);
         return t;
     }
-    after(console_record::answer(name, r, buffer, held), out, s)
+    after(altered(name, r, bits, s.len, buffer, held), out, s)
 }
 
 // `sums X..`
@@ -158,7 +176,7 @@ fn numbered(
     let told = of_numbers(name, r, &mut words[..n], s.len);
     let reply = told.reply;
     if !output::is_known(reply) {
-        return of_record(name, r, buffer, out, s);
+        return of_record(name, r, line::first(words, n), buffer, out, s);
     }
     t.len = told.len;
     t.at = output::reply_line(out, s.at, reply);

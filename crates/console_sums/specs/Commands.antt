@@ -1,4 +1,4 @@
--- The console's prefix sums: what each command says, writes or leaves. i is the image, r the command's numbers, g what has gathered before, w are the
+-- The console's prefix sums, and the record of its bits: what each command says, writes or leaves. i is the image, r the command's numbers, g what has gathered before, w are the
 -- buffer's words, s is what is held. Assumes nothing.
 use mathlib.Core.Bool.{Bool, cond, not, _&&_, _||_}
 use mathlib.Core.List.{List, [], _∷_}
@@ -6,6 +6,7 @@ use Prim.Native.Nat.{ℕ, zero, suc}
 use lib.Dec.{eqb, ltb, leb}
 use lib.ListN.{length, take, drop}
 use Rattle.errors.specs.Answer.{Answer, refused, Outcome}
+use Rattle.elias_fano_from_bits.specs.FromBits.{fromBitsOf}
 use Rattle.prefix_summed_elias_fano.specs.Items.{askable}
 use Rattle.prefix_summed_elias_fano.specs.Sums.{fromSliceOf, accessOf, lenOf}
 use Rattle.console_text.specs.declared.line.Arguments.{Arguments}
@@ -53,16 +54,32 @@ listedOf r i g = cond (fitsCountOf r) (walkItemsOf i (r .a) g) (withSays g bad)
 abbrev pub lineOf : Arguments → List ℕ → Gathered → Gathered
 lineOf r i g = withByte (listedOf r i g) 10
 
--- ---- `sums X..`
+-- ---- a record by one call
 
 -- the words of an accepted one are the image from then on
-abbrev pub ofSums : Record → Outcome → Turn
-ofSums s o = turn (answers (o .answer)) (imageAfter (o .answer) s) (o .words)
+abbrev pub ofWhole : Record → Outcome → Turn
+ofWhole s o = turn (answers (o .answer)) (imageAfter (o .answer) s) (o .words)
 
--- the words that are not lent stay
-unfoldable pub sumsWithin : List ℕ → Record → List ℕ → Turn
-sumsWithin A s w = cond (ltb (length w) (s .lent)) (turn bad s w) (above (drop (s .lent) w) (ofSums s (fromSliceOf A (take (s .lent) w))))
+-- of what is done with the lent words; the others stay
+unfoldable pub wholeWithin : (List ℕ → Outcome) → Record → List ℕ → Turn
+wholeWithin f s w = cond (ltb (length w) (s .lent)) (turn bad s w) (above (drop (s .lent) w) (ofWhole s (f (take (s .lent) w))))
 
--- of the words after the name, where all of them are numbers
+-- `sums X..`, of the words after the name, where all of them are numbers
 unfoldable pub sumsOf : List (List ℕ) → Record → List ℕ → Turn
-sumsOf fs s w = cond (not (numbersFrom 0 0 0 0 0 fs .fit) || ltb 32768 (length fs)) (turn bad s w) (sumsWithin (valuesOf fs) s w)
+sumsOf fs s w = cond (not (numbersFrom 0 0 0 0 0 fs .fit) || ltb 32768 (length fs)) (turn bad s w) (wholeWithin (fromSliceOf (valuesOf fs)) s w)
+
+-- "from_bits"
+unfoldable pub fromBitsName : List ℕ
+fromBitsName = 102 ∷ 114 ∷ 111 ∷ 109 ∷ 95 ∷ 98 ∷ 105 ∷ 116 ∷ 115 ∷ []
+
+abbrev pub fitsChoiceOf : Arguments → Bool
+fitsChoiceOf r = eqb (r .n) 1 && ltb (r .a) 2
+
+-- `from_bits C`, of the bits ws with the length len; k is 0 where the name is this
+unfoldable pub fromBitsCommand : ℕ → Arguments → List ℕ → ℕ → Record → List ℕ → Turn
+fromBitsCommand k r ws len s w =
+    cond (not (eqb k 0)) (turn unknown s w)
+    (cond (fitsChoiceOf r) (wholeWithin (fromBitsOf ws len (eqb (r .a) 1)) s w) (turn bad s w))
+
+abbrev pub fromBitsAnswer : List ℕ → Arguments → List ℕ → ℕ → Record → List ℕ → Turn
+fromBitsAnswer name r ws len s w = fromBitsCommand (placeAmong (wordsIn fromBitsName) name) r ws len s w

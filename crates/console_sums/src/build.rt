@@ -5,7 +5,7 @@ ghost use lib.ListN.{length, drop};
 ghost use Rattle.prefix_summed_elias_fano.specs.Sums.{fromSliceOf};
 ghost use Rattle.console_text.specs.Line.{fields, valuesOf};
 ghost use Rattle.console_record.specs.Section.{turnOf};
-ghost use Rattle.console_sums.specs.Commands.{ofSums, sumsWithin, sumsOf};
+ghost use Rattle.console_sums.specs.Commands.{ofWhole, wholeWithin, sumsOf};
 use console_record::Record;
 use console_record::Told;
 use console_record::alter;
@@ -15,14 +15,14 @@ use prefix_summed_elias_fano::build::from_slice;
 
 // Into the lent words, which are the image from then on.
 fn built(items: &[u64], words: &mut [u64], s: Record) -> Told
-    ensures { λ t. ⌜ turnOf t (now (words .exit)) ≡ ofSums s (fromSliceOf (now (items .entry)) (now (words .entry))) ⌝ }
+    ensures { λ t. ⌜ turnOf t (now (words .exit)) ≡ ofWhole s (fromSliceOf (now (items .entry)) (now (words .entry))) ⌝ }
 {
     alter::built(from_slice(items, &mut *words), s)
 }
 
 // Into the whole buffer, of which the first words are lent.
 fn within(items: &[u64], buffer: &mut [u64], s: Record) -> Told
-    ensures { λ t. ⌜ turnOf t (now (buffer .exit)) ≡ sumsWithin (now (items .entry)) s (now (buffer .entry)) ⌝ }
+    ensures { λ t. ⌜ turnOf t (now (buffer .exit)) ≡ wholeWithin (fromSliceOf (now (items .entry))) s (now (buffer .entry)) ⌝ }
 {
     let n = s.lent;
     if buffer.len() < n {
@@ -44,7 +44,7 @@ fn stored(
     s: Record,
 ) -> Told
     requires { ⌜ ((n ≡ length (fields (drop end (now text)))) × (n ≤ length (now items))) ⌝ }
-    ensures { λ t. ⌜ turnOf t (now (buffer .exit)) ≡ sumsWithin (valuesOf (fields (drop end (now (text .entry))))) s (now (buffer .entry)) ⌝ }
+    ensures { λ t. ⌜ turnOf t (now (buffer .exit)) ≡ wholeWithin (fromSliceOf (valuesOf (fields (drop end (now (text .entry)))))) s (now (buffer .entry)) ⌝ }
 {
     line::store(text, end, &mut *items);
     within(line::first(items, n), &mut *buffer, s)

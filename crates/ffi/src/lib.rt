@@ -1,11 +1,12 @@
-// The record for C and Rust: a static library, thin over `elias_fano`, `elias_fano_queries`, `elias_fano_walk` and `prefix_summed_elias_fano`.
-// ffi/elias_fano.h says it in C, with who owns which words.
+// The record for C and Rust: a static library, thin over `elias_fano` and the crates of its questions, of the record from bits and of the prefix
+// sums. ffi/elias_fano.h says it in C, with who owns which words.
 //
 // Here a record is written and opened; `ask` has one question a call, `many` as many as an array holds, `sums` the prefix sums.
 ghost use mathlib.Core.Path.{_≡_};
 ghost use Rattle.elias_fano.specs.Accept.{openOf};
 ghost use Rattle.elias_fano.specs.Made.{made};
 ghost use Rattle.elias_fano.specs.Steps.{newOf, pushOf, buildOf};
+ghost use Rattle.elias_fano_from_bits.specs.FromBits.{fromBitsOf};
 ghost use Rattle.ffi.specs.Answers.{ofBuilder, ofRefusal, efAnswer, efOpened, Told};
 
 mod ask;
@@ -19,6 +20,7 @@ use elias_fano::builder::Builder;
 use elias_fano::builder::Pushed;
 use elias_fano::image;
 use elias_fano::image::Opened;
+use elias_fano_from_bits::build::from_bits;
 use errors::number;
 
 // How far a record is written.
@@ -118,6 +120,19 @@ pub extern "C" fn ef_build(b: EfBuilder, rank: bool, buffer: &mut [u64]) -> EfAn
     ensures { λ r. ⌜ ((r ≡ efAnswer (buildOf (ofBuilder b) rank (now (buffer .entry)) .answer)) × (now (buffer .exit) ≡ buildOf (ofBuilder b) rank (now (buffer .entry)) .words)) ⌝ }
 {
     tell_built(builder::build(inner(b), rank, &mut *buffer))
+}
+
+// Makes an image of the places of the ones among so many bits: its length, or a refusal.
+#[no_mangle]
+pub extern "C" fn ef_from_bits(
+    words: &[u64],
+    len: usize,
+    rank: bool,
+    buffer: &mut [u64],
+) -> EfAnswer
+    ensures { λ r. ⌜ ((r ≡ efAnswer (fromBitsOf (now (words .entry)) len rank (now (buffer .entry)) .answer)) × (now (buffer .exit) ≡ fromBitsOf (now (words .entry)) len rank (now (buffer .entry)) .words)) ⌝ }
+{
+    tell_built(from_bits(words, len, rank, &mut *buffer))
 }
 
 // Decides whether an image is one that some run writes: 0, or the refusal's number.

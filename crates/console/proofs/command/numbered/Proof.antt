@@ -20,6 +20,9 @@ of-numbers-requires c κs = search needs
 is-known-requires : tie.Need-is-known-requires
 is-known-requires c κs = search needs
 
+first-requires : tie.Need-first-requires
+first-requires c κs = search needs
+
 of-record-requires : tie.Need-of-record-requires
 of-record-requires c κs = search needs
 
@@ -47,6 +50,7 @@ numbered-spec =
     slice-aggregate-of-numbers
     of-numbers-requires
     is-known-requires
+    first-requires
     of-record-requires
     same-length
     returns-2

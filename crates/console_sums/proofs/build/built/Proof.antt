@@ -3,7 +3,7 @@ use mathlib.Core.Path.{ap, _∙_}
 use Rattle.errors.specs.Answer.{Outcome}
 use Rattle.console_record.specs.declared.Told.{Told}
 use Rattle.console_record.specs.Section.{turnOf}
-use Rattle.console_sums.specs.Commands.{ofSums}
+use Rattle.console_sums.specs.Commands.{ofWhole}
 use Rattle.console_sums.proofs.Telling.{built-leaves}
 use borrow.Author.Needs.{needs}
 use Rattle.console_sums.proofs.build.built.Statement.{statement}
@@ -24,7 +24,7 @@ returns c =
     let p = c .before .before .before .from-slice in
     ap (λ (t : Told). turnOf t (p .last .1 .0)) (c .built .ensures)
     ∙ built-leaves (p .result) (a .s) (p .last .1 .0)
-    ∙ ap (λ (o : Outcome). ofSums (a .s) o) (p .ensures)
+    ∙ ap (λ (o : Outcome). ofWhole (a .s) o) (p .ensures)
 
 pub built-spec : {M : Type 1} → statement M
 built-spec = tie.close (tie.spec from-slice-requires built-requires same-length returns)
