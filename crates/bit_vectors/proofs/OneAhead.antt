@@ -193,7 +193,7 @@ module _ (ws : List ℕ) (len p q buf : ℕ) (fit : Fit ws) (v : Valid ws len) (
       go (no g) = let m = lt-of-not-le g in ahead-none ws len q (p / 64) fit v (count-mono (bitOver true ws) len q (omega arith))
 
   module _ (z : buf ≡ 0) (l : p / 64 + 1 < wordsFor len) (i : ℕ) (s : Skipped (bitOver true ws) (p / 64 + 1) (wordsFor len) 0 i 0) where
-    same : count (bitOver true ws) (i * 64) ≡ count (bitOver true ws) q
+    pub same : count (bitOver true ws) (i * 64) ≡ count (bitOver true ws) q
     same = let e = s .before in let a = after z (omega arith) in omega arith
 
     pub left-none : i ≡ wordsFor len → OneAhead ws len q (p / 64) 0

@@ -92,7 +92,7 @@ fn ended(len: usize) -> Stepped
 }
 
 // The first word from the word `first` on that is not 0; `used` where none is left.
-fn skip_zeros(words: &[u64], first: usize, used: usize) -> usize
+pub fn skip_zeros(words: &[u64], first: usize, used: usize) -> usize
     requires { ⌜ ((first ≤ used) × (used ≤ length (now words))) ⌝ }
     ensures { λ r. ⌜ Skipped (bitOver true (now (words .entry))) first used 0 r 0 ⌝ }
 {

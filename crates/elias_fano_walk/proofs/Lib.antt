@@ -1,3 +1,4 @@
+pub mod Lows
 pub mod Reading
 pub mod Searched
 pub mod Steps

@@ -1,29 +1,35 @@
 // A walk over the values of an image, from a number on. Its state is a value beside the image, which each step takes again.
 //
 // The functions here are inner: they demand an opened image, and a walk over it as `begin` and each step leave it. A step costs a constant and
-// the high words that it passes; a walk passes each high word once.
+// the high words that it passes; a walk reads each high word once, and low bits 63 at a time. What a step hands on takes no product and no
+// table, so the next need not wait for them.
 ghost use mathlib.Core.Path.{_≡_};
-ghost use Prim.Native.Nat.{suc, _<_};
+ghost use mathlib.Core.Bool.{true};
+ghost use Prim.Native.Nat.{suc, _*_, _/_, _^_, _<_};
 ghost use lib.ListN.{getD};
-ghost use Rattle.elias_fano.specs.Accept.{times};
+ghost use Rattle.elias_fano.specs.Accept.{accepted, partsOf, times};
 ghost use Rattle.elias_fano.specs.Opening.{Open};
-ghost use Rattle.elias_fano_walk.specs.Walking.{Walkable, WalkOver, OneTaken, ofValueStep, valueStepOf};
-use bit_vectors::Place;
-use bit_vectors::unary::Unary;
-use bit_vectors::unary::next_within;
+ghost use Rattle.elias_fano_walk.specs.Walking.{Walkable, WalkOver, OnesAhead, LowsAhead, OneTaken, lowPart, ofValueStep, valueStepOf};
+use bit_vectors::unary::skip_zeros;
 use bit_vectors::unary::walk_from;
+use bit_words::WORD_LEN;
+use bit_words::words_for;
+use broadword::Found;
+use broadword::lsb_by;
 use elias_fano::image::Parts;
 use elias_fano::image::Value;
 use elias_fano::image::one_at;
-use elias_fano_words::check::low_from;
+use elias_fano_words::check::bits_at;
 
 pub struct Walk {
     // Of the next value.
     pub number: usize,
-    // The place of its low bits.
-    pub low: usize,
-    // The ones from its own on.
-    pub ones: Unary,
+    // The place of the first bit of the high word where the walk stands.
+    pub base: usize,
+    // The ones of that word from the next value's on.
+    pub rest: u64,
+    // Low bits from the next value's on, as many as stand below the highest one.
+    pub lows: u64,
 }
 
 pub struct Taken {
@@ -36,10 +42,17 @@ pub struct ValueStep {
     pub walk: Walk,
 }
 
-// Inside the crate: the place of a one, and the walk over those after it.
+// Inside the crate: a high word with a one ahead.
+struct Ahead {
+    base: usize,
+    rest: u64,
+}
+
+// Inside the crate: the place of a one, and the ones after it.
 struct One {
     place: usize,
-    rest: Unary,
+    base: usize,
+    rest: u64,
 }
 
 // The walk from the value with the number k on.
@@ -50,37 +63,74 @@ pub fn begin(image: &[u64], p: Parts, k: usize, table: &[u8; 2048]) -> Walk
     if k >= p.num_pushed as usize {
         return Walk {
             number: k,
-            low: 0,
-            ones: Unary {
-                position: 0,
-                from: 0,
-                buf: 0,
-            },
+            base: 0,
+            rest: 0,
+            lows: 1,
         };
     }
     let start = p.low_at;
     let place = one_at(image, p, k, table);
+    let ones = walk_from(&image[6..start], place);
     Walk {
         number: k,
-        low: k * p.low_len,
-        ones: walk_from(&image[6..start], place),
+        base: place / WORD_LEN * WORD_LEN,
+        rest: ones.buf,
+        lows: 1,
     }
 }
 
-// The one of the next value, which there is, and the walk over the ones after it.
+// The high word with the one of the next value, which there is.
+fn ahead_of(image: &[u64], p: Parts, w: Walk) -> Ahead
+    requires { ⌜ ((accepted (now image) ≡ true) × (p ≡ partsOf (now image)) × WalkOver (now image) p w × (w .number < p .«num_pushed»)) ⌝ }
+    ensures { λ r. ⌜ (OnesAhead (now (image .entry)) p (w .number) (r .base) (r .rest) × (r .rest ≡ 0 → ⊥)) ⌝ }
+{
+    let base = w.base;
+    let rest = w.rest;
+    if rest != 0 {
+        return Ahead { base, rest };
+    }
+    let start = p.low_at;
+    let high = &image[6..start];
+    let at = skip_zeros(high, base / WORD_LEN + 1, words_for(p.high_len));
+    Ahead {
+        base: at * WORD_LEN,
+        rest: high[at],
+    }
+}
+
+// The one of the next value, which there is, and the ones after it.
 fn take_one(image: &[u64], p: Parts, w: Walk, places: &[u8; 64]) -> One
     requires { ⌜ (Walkable (now image) p (now places) × WalkOver (now image) p w × (w .number < p .«num_pushed»)) ⌝ }
     ensures { λ r. ⌜ OneTaken (now (image .entry)) p w r ⌝ }
 {
+    let ahead = ahead_of(image, p, w);
+    let base = ahead.base;
+    let rest = ahead.rest;
+    match lsb_by(places, rest) {
+        Found::At(bit) => One {
+            place: base + bit,
+            base,
+            rest: rest & (rest - 1),
+        },
+        Found::Nothing => One {
+            place: 0,
+            base,
+            rest,
+        },
+    }
+}
+
+// The low bits from those of the next value on, with all of its own.
+fn lows_of(image: &[u64], p: Parts, w: Walk) -> u64
+    requires { ⌜ ((accepted (now image) ≡ true) × (p ≡ partsOf (now image)) × WalkOver (now image) p w × (w .number < p .«num_pushed»)) ⌝ }
+    ensures { λ r. ⌜ (LowsAhead (lowPart (now (image .entry)) p) (w .number * p .«low_len») r × (r / 2 ^ p .«low_len» ≡ 0 → ⊥)) ⌝ }
+{
+    if w.lows >> p.low_len != 0 {
+        return w.lows;
+    }
     let start = p.low_at;
-    let ones = w.ones;
-    let s = next_within(&image[6..start], p.high_len, ones, places);
-    let found = s.place;
-    let rest = s.walk;
-    let Place::At(place) = found else {
-        return One { place: 0, rest };
-    };
-    One { place, rest }
+    let end = p.ones_at;
+    bits_at(&image[start..end], w.number * p.low_len) | 0x8000_0000_0000_0000
 }
 
 // The next value, which there is.
@@ -88,17 +138,16 @@ pub fn take(image: &[u64], p: Parts, w: Walk, places: &[u8; 64]) -> Taken
     requires { ⌜ (Walkable (now image) p (now places) × WalkOver (now image) p w × (w .number < p .«num_pushed»)) ⌝ }
     ensures { λ r. ⌜ (WalkOver (now (image .entry)) p (r .walk) × (r .walk .number ≡ suc (w .number)) × (r .value ≡ getD (times (now (image .entry))) (w .number) 0)) ⌝ }
 {
-    let start = p.low_at;
-    let end = p.ones_at;
     let one = take_one(image, p, w, places);
-    let rest = one.rest;
-    let low = low_from(&image[start..end], p.low_len, w.low);
+    let lows = lows_of(image, p, w);
+    let low = lows & ((1 << p.low_len) - 1);
     Taken {
         value: (((one.place - w.number) as u64) << p.low_len) + low,
         walk: Walk {
             number: w.number + 1,
-            low: w.low + p.low_len,
-            ones: rest,
+            base: one.base,
+            rest: one.rest,
+            lows: lows >> p.low_len,
         },
     }
 }

@@ -34,7 +34,7 @@ two-shifts v s h =
     mod-mul (v * 2) (2 ^ (63 - s)) (2 ^ 64) ∙ ap (λ (x : ℕ). x % 2 ^ 64) (d (2 ^ (63 - s)) ∙ ap (λ (x : ℕ). v * x) (sym p))
 
 -- the low bits of a low part
-mod-low : (x k n : ℕ) → n ≤ k → x % 2 ^ k % 2 ^ n ≡ x % 2 ^ n
+pub mod-low : (x k n : ℕ) → n ≤ k → x % 2 ^ k % 2 ^ n ≡ x % 2 ^ n
 mod-low x k n h = let d = le-dest h in ap (λ (j : ℕ). x % 2 ^ j % 2 ^ n) (let e : k ≡ d .0 + n = omega (arith, d .1) in e) ∙ mod-mod-pow x (d .0) n
 
 module _ (ws : List ℕ) (fit : Fit ws) (pos next : ℕ) (after : pos / 64 + 1 < length ws → next ≡ pos / 64 + 1) where
@@ -85,7 +85,7 @@ low-none low l pos z = ap (word 1 (λ i. bitAt low (pos + i))) z
 abbrev mask : ℕ → ℕ
 mask l = (1 * 2 ^ l) % 2 ^ 64 - 1
 
-masked : (l x : ℕ) → l < 64 → bitAnd x (mask l) ≡ x % 2 ^ l
+pub masked : (l x : ℕ) → l < 64 → bitAnd x (mask l) ≡ x % 2 ^ l
 masked l x h = ap (λ (p : ℕ). bitAnd x (p - 1)) (one-shl l h) ∙ and-mask x l
 
 pub mask-fits : (l : ℕ) → l < 64 → 1 ≤ (1 * 2 ^ l) % 2 ^ 64

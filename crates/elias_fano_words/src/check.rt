@@ -43,7 +43,7 @@ fn clear_from(words: &[u64], pos: usize) -> bool
 }
 
 // The 64 bits from pos on. Where no word follows that of pos, it is read again: only bits past the last are wrong then.
-fn bits_at(words: &[u64], pos: usize) -> u64
+pub fn bits_at(words: &[u64], pos: usize) -> u64
     requires { ⌜ pos < length (now words) * 64 ⌝ }
     ensures { λ r. ⌜ ((n : ℕ) → n ≤ 64 → pos + n ≤ length (now (words .entry)) * 64 → r % 2 ^ n ≡ word 1 (λ i. bitAt (now (words .entry)) (pos + i)) n) ⌝ }
 {

@@ -15,25 +15,25 @@ returns c = ((λ h. absurd (omega (arith, c .if1 .taken))), refl)
 one-at-requires : tie.Need-one-at-requires
 one-at-requires c κs = search needs
 
-mul-t7 : tie.Need-mul-t7
-mul-t7 c = let s = c .before .before .before .before in record { fits = walked.begin-low (s .args .image .now) (s .pre .ok) (s .args .p) (s .pre .parts) (s .args .k) _ (c .before .one-at .ensures) }
-
 sub-walk-from : tie.Need-sub-walk-from
-sub-walk-from c = let s = c .before .before .before .before in standing.six-low (s .args .image .now) (s .args .p) (s .pre .parts) (found (s .args .image .now) (s .pre .ok) .head)
+sub-walk-from c = let s = c .before .before .before in standing.six-low (s .args .image .now) (s .args .p) (s .pre .parts) (found (s .args .image .now) (s .pre .ok) .head)
 
 part-walk-from-start : tie.Need-part-walk-from-start
-part-walk-from-start c = let s = c .before .before .before .before in standing.six-low (s .args .image .now) (s .args .p) (s .pre .parts) (found (s .args .image .now) (s .pre .ok) .head)
+part-walk-from-start c = let s = c .before .before .before in standing.six-low (s .args .image .now) (s .args .p) (s .pre .parts) (found (s .args .image .now) (s .pre .ok) .head)
 
 part-walk-from-end : tie.Need-part-walk-from-end
-part-walk-from-end c = let s = c .before .before .before .before in standing.low-end (s .args .image .now) (s .args .p) (s .pre .parts) (found (s .args .image .now) (s .pre .ok) .head)
+part-walk-from-end c = let s = c .before .before .before in standing.low-end (s .args .image .now) (s .args .p) (s .pre .parts) (found (s .args .image .now) (s .pre .ok) .head)
 
 walk-from-requires : tie.Need-walk-from-requires
-walk-from-requires c κs = let s = c .before .before .before .before .before in walked.begin-room (s .args .image .now) (s .pre .ok) (s .args .p) (s .pre .parts) (s .args .k) _ (c .before .before .one-at .ensures)
+walk-from-requires c κs = let s = c .before .before .before .before in walked.begin-room (s .args .image .now) (s .pre .ok) (s .args .p) (s .pre .parts) (s .args .k) _ (c .before .one-at .ensures)
+
+mul-t13 : tie.Need-mul-t13
+mul-t13 c = search needs
 
 returns-2 : tie.Need-returns-2
 returns-2 c =
-    let s = c .before .before .before .before .before .before in
-    ((λ h. walked.begun (s .args .image .now) (s .pre .ok) (s .args .p) (s .pre .parts) (s .args .k) _ (c .before .before .before .one-at .ensures) _ (c .walk-from .ensures)), refl)
+    let s = c .before .before .before .before .before in
+    ((λ h. walked.begun (s .args .image .now) (s .pre .ok) (s .args .p) (s .pre .parts) (s .args .k) _ (c .before .before .one-at .ensures) _ (c .walk-from .ensures)), refl)
 
 pub begin-spec : {M : Type 1} → statement M
 begin-spec =
@@ -41,9 +41,9 @@ begin-spec =
     (tie.spec
     returns
     one-at-requires
-    mul-t7
     sub-walk-from
     part-walk-from-start
     part-walk-from-end
     walk-from-requires
+    mul-t13
     returns-2)
