@@ -161,7 +161,7 @@ module _ (i : List ℕ) (ok : accepted i ≡ true) (p : Parts) (ep : p ≡ parts
       pub at-or-past : k ≤ x
       at-or-past = let a = here in omega arith
 
-      upper : x - k ≡ t / 2 ^ l
+      pub upper : x - k ≡ t / 2 ^ l
       upper = let a = here in let d : (y : ℕ) → y + k - k ≡ y = λ y. omega arith in ap (λ (y : ℕ). y - k) a ∙ d (t / 2 ^ l)
 
       module _ (low : ℕ) (el : low ≡ lowBits (p .«low_len») (take (p .«ones_at» - p .«low_at») (drop (p .«low_at») i)) k) where

@@ -1,14 +1,15 @@
 -- Search: the walk from the low end, the halving, and the answers. T is the list of times. Assumes nothing.
-use mathlib.Core.Path.{_≡_, refl, sym, ap, ap₂, _∙_, subst}
+use mathlib.Core.Path.{_≡_, refl, sym, ap, ap₂, _∙_, subst, subst⁻¹}
 use mathlib.Core.List.{List, _∷_}
 use mathlib.Core.Bool.{true}
 use Prim.Native.Nat.{ℕ, zero, suc, _+_, _-_, _/_, _^_, _≤_, _<_}
-use native.Mathlib.Nat.{le-refl, lt-of-not-le}
+use native.Mathlib.Nat.{le-refl, le-of-eq, le-trans, lt-of-lt-of-le, lt-of-le-of-lt, lt-of-not-le, add-zero}
 use native.Mathlib.Numerals.{add-one}
 use native.Mathlib.Decide.{ℕ-discrete, decLe, decLt}
 use native.Mathlib.Omega.{arith}
 use borrow.Author.Tests.{le-ltb, lt-ltb, le-leb, lt-leb, eq-eqb, ne-eqb}
 use lib.ListN.{length, getD, take, drop}
+use lib.Pow.{shr-mono}
 use lib.Seq.{drop-cons}
 use Rattle.errors.specs.Answer.{Answer, value, none, refused}
 use Rattle.elias_fano_words.specs.Times.{rising}
@@ -16,10 +17,13 @@ use Rattle.elias_fano_words.proofs.Rising.{rising-le}
 use Rattle.elias_fano.specs.declared.image.Parts.{Parts}
 use Rattle.elias_fano.specs.Accept.{times, accepted, partsOf}
 use Rattle.elias_fano.specs.Ask.{Binsearch, BinsearchRange, scan, halve, searched, ask, asked}
+use Rattle.elias_fano.specs.Opening.{OneAt}
 use Rattle.elias_fano.proofs.Images as images
 use Rattle.elias_fano.proofs.Selecting as selecting
+use Rattle.elias_fano_walk.specs.declared.search.Order.{Order}
+use Rattle.elias_fano_walk.specs.declared.search.Order.the-variants as order
 use Rattle.elias_fano_walk.specs.declared.walk.Walk.{Walk}
-use Rattle.elias_fano_walk.specs.Searching.{Range}
+use Rattle.elias_fano_walk.specs.Searching.{Range, Ordered, ScanStart}
 use Rattle.elias_fano_walk.specs.Walking.{WalkOver}
 
 -- ---- from the low end
@@ -62,6 +66,57 @@ module _ (v : ℕ) (T : List ℕ) (b : ℕ) (up : b ≤ length T) where
     scan-past : (j : ℕ) → v < getD T j 0 → scanned v T b j ≡ none
     scan-past j g = past (b - j) j (le-refl (b - j)) (λ _. g)
 
+  -- nor is one before the number r, if all there are below v
+  scan-skip : (a r : ℕ) → a ≤ r → r ≤ b → ((j : ℕ) → j < r → a ≤ j → getD T j 0 < v) → scanned v T b a ≡ scanned v T b r
+  scan-skip a r h k g = go (r - a) a (let e : a + (r - a) ≡ r = omega arith in e) (λ j l m. g j l m)
+    where
+      go : (d j : ℕ) → j + d ≡ r → ((i : ℕ) → i < r → j ≤ i → getD T i 0 < v) → scanned v T b j ≡ scanned v T b r
+      go zero j e f = ap (scanned v T b) (let q : j ≡ r = omega arith in q)
+      go (suc d) j e f = scan-on j (omega arith) (λ q. omega (arith, f j (omega arith) (le-refl j))) ∙ go d (j + 1) (omega arith) (λ i l m. f i l (omega arith))
+
+-- ---- values in order, compared by the high bits of others
+
+module _ (u : ℕ) (T : List ℕ) (r : rising u 0 T ≡ true) where
+  climbs : (d j : ℕ) → j + d < length T → getD T j 0 ≤ getD T (j + d) 0
+  climbs zero j h = le-of-eq (ap (λ (k : ℕ). getD T k 0) (sym (add-zero j)))
+  climbs (suc d) j h =
+      let e : j + suc d ≡ j + d + 1 = omega arith in
+      le-trans (climbs d j (omega arith)) (subst⁻¹ (λ (k : ℕ). getD T (j + d) 0 ≤ getD T k 0) e (rising-le u T (j + d) r (omega arith)))
+
+  upto : (j k : ℕ) → j ≤ k → k < length T → getD T j 0 ≤ getD T k 0
+  upto j k h l = let e : j + (k - j) ≡ k = omega arith in subst (λ (n : ℕ). getD T j 0 ≤ getD T n 0) e (climbs (k - j) j (omega arith))
+
+  less : (x y s : ℕ) → x / 2 ^ s < y / 2 ^ s → x < y
+  less x y s h = lt-of-not-le (λ (g : y ≤ x). omega (arith, shr-mono s g))
+
+  above-by : (v s j k : ℕ) → j ≤ k → k < length T → v / 2 ^ s < getD T j 0 / 2 ^ s → v < getD T k 0
+  above-by v s j k h l g = lt-of-lt-of-le (less v (getD T j 0) s g) (upto j k h l)
+
+  below-by : (v s j k : ℕ) → k ≤ j → j < length T → getD T j 0 / 2 ^ s < v / 2 ^ s → getD T k 0 < v
+  below-by v s j k h l g = lt-of-le-of-lt (upto k j h l) (less (getD T j 0) v s g)
+
+module _ (i : List ℕ) (ok : accepted i ≡ true) (p : Parts) (ep : p ≡ partsOf i) where
+  in-list : (k : ℕ) → k < p .«num_pushed» → k < length (times i)
+  in-list k h = subst (λ (y : ℕ). k < y) (selecting.pushed-is i ok p ep) h
+
+  -- no sum of two numbers of values leaves a word
+  pub number-small : (k : ℕ) → k < p .«num_pushed» → k < 2 ^ 32
+  number-small k h = let f = images.is-fit i ok in let m = in-list k h in omega (arith, f .few, f .most)
+
+  pub upper-is : (k x : ℕ) → OneAt i p k x → x - k ≡ getD (times i) k 0 / 2 ^ p .«low_len»
+  upper-is k x o = selecting.upper i ok p ep k (o .below) x (o .place) ∙ ap (λ (l : ℕ). getD (times i) k 0 / 2 ^ l) (sym (selecting.low-len-is i ok p ep))
+
+  module _ (v j k x : ℕ) (e : x ≡ getD (times i) j 0 / 2 ^ p .«low_len») where
+    pub is-above : j ≤ k → k < p .«num_pushed» → v / 2 ^ p .«low_len» < x → v < getD (times i) k 0
+    is-above h l g = above-by _ (times i) (images.is-fit i ok .rises) v (p .«low_len») j k h (in-list k l) (subst (λ (y : ℕ). v / 2 ^ p .«low_len» < y) e g)
+
+    pub is-below : k ≤ j → j < p .«num_pushed» → x < v / 2 ^ p .«low_len» → getD (times i) k 0 < v
+    is-below h l g = below-by _ (times i) (images.is-fit i ok .rises) v (p .«low_len») j k h (in-list j l) (subst (λ (y : ℕ). y < v / 2 ^ p .«low_len») e g)
+
+  module _ (v a b : ℕ) (g : Range p a b) where
+    pub start-later : (r x : ℕ) → a < r → r < b → x ≡ getD (times i) r 0 / 2 ^ p .«low_len» → x < v / 2 ^ p .«low_len» → ScanStart (times i) a b v r
+    start-later r x h l e q = record { from = omega arith; upto = l; less = λ j m n. is-below v r j x e (omega arith) (omega (arith, g .upto)) q }
+
 -- ---- the loop
 
 -- the values from a on and below j are not v
@@ -75,8 +130,8 @@ module _ (i : List ℕ) (ok : accepted i ≡ true) (p : Parts) (ep : p ≡ parts
   up : b ≤ length (times i)
   up = subst (λ (y : ℕ). b ≤ y) (selecting.pushed-is i ok p ep) (g .upto)
 
-  pub scan-begins : (w : Walk) → WalkOver i p w → w .number ≡ a → Scanning i p v a b w a
-  scan-begins w h e = record { upto = omega (arith, g .some); walking = h; number = e; same = refl }
+  pub scan-begins : (r : ℕ) → ScanStart (times i) a b v r → (w : Walk) → WalkOver i p w → w .number ≡ r → Scanning i p v a b w r
+  scan-begins r s w h e = record { upto = omega (arith, s .upto); walking = h; number = e; same = scan-skip v (times i) b up a r (s .from) (omega (arith, s .upto)) (s .less) }
 
   module _ (w : Walk) (j : ℕ) (s : Scanning i p v a b w j) where
     pub scan-ends : b ≤ j → none ≡ scanned v (times i) b a
@@ -100,9 +155,8 @@ module _ (i : List ℕ) (ok : accepted i ≡ true) (p : Parts) (ep : p ≡ parts
         same = s .same ∙ scan-on v (times i) b up j l (λ q. n (at ∙ q));
       }
 
-  -- no sum of two numbers of values leaves a word
-  pub few : b < 2 ^ 32
-  few = let f = images.is-fit i ok in let m = up in omega (arith, f .few, f .most)
+  pub few : b ≤ 2 ^ 32
+  few = let k = number-small i ok p ep (b - 1) (omega (arith, g .some, g .upto)) in omega arith
 
 -- ---- the halving
 
@@ -158,23 +212,28 @@ module _ (v : ℕ) (T : List ℕ) where
     pub is-scan : b - a ≤ 64 → (r : Answer) → r ≡ scanned v T b a → r ≡ halve v T (b - a) a b
     is-scan h r e = e ∙ sym (enough (b - a) (suc (b - a)) a b (le-refl (b - a)) (omega arith) ∙ small a b (b - a) h)
 
-    module _ (h : 64 < b - a) (x : ℕ) (e : x ≡ getD T (mid a b) 0) where
+    module _ (h : 64 < b - a) (o : Order) (is : Ordered o (getD T (mid a b) 0) v) where
       more : halve v T (b - a) a b ≡ halve v T (suc (b - a)) a b
       more = enough (b - a) (suc (b - a)) a b (le-refl (b - a)) (omega arith)
 
-      pub is-middle : x ≡ v → value (mid a b) ≡ halve v T (b - a) a b
-      is-middle q = sym (more ∙ middle a b (b - a) h (sym e ∙ q))
+      told : (q : Order) → o ≡ q → Ordered q (getD T (mid a b) 0) v
+      told q e = subst (λ (y : Order). Ordered y (getD T (mid a b) 0) v) e is
 
-      pub is-left : (x ≡ v → ⊥) → v < x → (r : Answer) → r ≡ halve v T (mid a b - a) a (mid a b) → r ≡ halve v T (b - a) a b
-      is-left n l r er =
+      pub is-middle : o ≡ order.Equal → value (mid a b) ≡ halve v T (b - a) a b
+      is-middle e = sym (more ∙ middle a b (b - a) h (told order.Equal e))
+
+      pub is-left : o ≡ order.Above → (r : Answer) → r ≡ halve v T (mid a b - a) a (mid a b) → r ≡ halve v T (b - a) a b
+      is-left e r er =
+          let l : v < getD T (mid a b) 0 = told order.Above e in
           er ∙ enough (mid a b - a) (b - a) a (mid a b) (le-refl (mid a b - a)) (omega arith)
-          ∙ sym (more ∙ left a b (b - a) h (λ q. n (e ∙ q)) (subst (λ (y : ℕ). v < y) e l))
+          ∙ sym (more ∙ left a b (b - a) h (λ q. omega arith) l)
 
-      pub is-right : (x ≡ v → ⊥) → x ≤ v → (r : Answer) → r ≡ halve v T (b - (mid a b + 1)) (mid a b + 1) b → r ≡ halve v T (b - a) a b
-      is-right n l r er =
+      pub is-right : o ≡ order.Below → (r : Answer) → r ≡ halve v T (b - (mid a b + 1)) (mid a b + 1) b → r ≡ halve v T (b - a) a b
+      is-right e r er =
+          let l : getD T (mid a b) 0 < v = told order.Below e in
           er ∙ enough (b - (mid a b + 1)) (b - a) (mid a b + 1) b (le-refl (b - (mid a b + 1))) (omega arith)
           ∙ ap (λ (y : ℕ). halve v T (b - a) y b) (add-one (mid a b))
-          ∙ sym (more ∙ right a b (b - a) h (λ q. n (e ∙ q)) (subst (λ (y : ℕ). y ≤ v) e l))
+          ∙ sym (more ∙ right a b (b - a) h (λ q. omega arith) (omega arith))
 
 -- ---- the answers
 
