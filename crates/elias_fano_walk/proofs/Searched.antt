@@ -23,7 +23,7 @@ use Rattle.elias_fano.proofs.Selecting as selecting
 use Rattle.elias_fano_walk.specs.declared.search.Order.{Order}
 use Rattle.elias_fano_walk.specs.declared.search.Order.the-variants as order
 use Rattle.elias_fano_walk.specs.declared.walk.Walk.{Walk}
-use Rattle.elias_fano_walk.specs.Searching.{Range, Ordered, ScanStart}
+use Rattle.elias_fano_walk.specs.Searching.{Range, Ordered, ScanStart, ofSpot}
 use Rattle.elias_fano_walk.specs.Walking.{WalkOver}
 
 -- ---- from the low end
@@ -73,6 +73,16 @@ module _ (v : ℕ) (T : List ℕ) (b : ℕ) (up : b ≤ length T) where
       go : (d j : ℕ) → j + d ≡ r → ((i : ℕ) → i < r → j ≤ i → getD T i 0 < v) → scanned v T b j ≡ scanned v T b r
       go zero j e f = ap (scanned v T b) (let q : j ≡ r = omega arith in q)
       go (suc d) j e f = scan-on j (omega arith) (λ q. omega (arith, f j (omega arith) (le-refl j))) ∙ go d (j + 1) (omega arith) (λ i l m. f i l (omega arith))
+
+-- ---- an answer in one word
+
+pub spot-none : (r : ℕ) → r ≡ 2 ^ 64 - 1 → ofSpot r ≡ none
+unfolding ofSpot
+spot-none r e = simp (eq-eqb r (2 ^ 64 - 1) e)
+
+pub spot-some : (r : ℕ) → (r ≡ 2 ^ 64 - 1 → ⊥) → ofSpot r ≡ value r
+unfolding ofSpot
+spot-some r n = simp (ne-eqb r (2 ^ 64 - 1) n)
 
 -- ---- values in order, compared by the high bits of others
 
@@ -130,22 +140,25 @@ module _ (i : List ℕ) (ok : accepted i ≡ true) (p : Parts) (ep : p ≡ parts
   up : b ≤ length (times i)
   up = subst (λ (y : ℕ). b ≤ y) (selecting.pushed-is i ok p ep) (g .upto)
 
+  pub few : b ≤ 2 ^ 32
+  few = let k = number-small i ok p ep (b - 1) (omega (arith, g .some, g .upto)) in omega arith
+
   pub scan-begins : (r : ℕ) → ScanStart (times i) a b v r → (w : Walk) → WalkOver i p w → w .number ≡ r → Scanning i p v a b w r
   scan-begins r s w h e = record { upto = omega (arith, s .upto); walking = h; number = e; same = scan-skip v (times i) b up a r (s .from) (omega (arith, s .upto)) (s .less) }
 
   module _ (w : Walk) (j : ℕ) (s : Scanning i p v a b w j) where
-    pub scan-ends : b ≤ j → none ≡ scanned v (times i) b a
-    scan-ends h = sym (s .same ∙ scan-end v (times i) b up j h)
+    pub scan-ends : b ≤ j → ofSpot (2 ^ 64 - 1) ≡ scanned v (times i) b a
+    scan-ends h = spot-none (2 ^ 64 - 1) refl ∙ sym (s .same ∙ scan-end v (times i) b up j h)
 
     module _ (l : j < b) (x : ℕ) (e : x ≡ getD (times i) (w .number) 0) where
       at : x ≡ getD (times i) j 0
       at = e ∙ ap (λ (n : ℕ). getD (times i) n 0) (s .number)
 
-      pub scan-finds : x ≡ v → value j ≡ scanned v (times i) b a
-      scan-finds h = sym (s .same ∙ scan-here v (times i) b up j l (sym at ∙ h))
+      pub scan-finds : x ≡ v → ofSpot j ≡ scanned v (times i) b a
+      scan-finds h = spot-some j (let k = few in λ e. omega arith) ∙ sym (s .same ∙ scan-here v (times i) b up j l (sym at ∙ h))
 
-      pub scan-stops : v < x → none ≡ scanned v (times i) b a
-      scan-stops h = sym (s .same ∙ scan-past v (times i) b up _ (images.is-fit i ok .rises) j (subst (λ (y : ℕ). v < y) at h))
+      pub scan-stops : v < x → ofSpot (2 ^ 64 - 1) ≡ scanned v (times i) b a
+      scan-stops h = spot-none (2 ^ 64 - 1) refl ∙ sym (s .same ∙ scan-past v (times i) b up _ (images.is-fit i ok .rises) j (subst (λ (y : ℕ). v < y) at h))
 
       pub scan-goes-on : (x ≡ v → ⊥) → (w′ : Walk) → WalkOver i p w′ → w′ .number ≡ suc (w .number) → Scanning i p v a b w′ (j + 1)
       scan-goes-on n w′ h k = record {
@@ -154,9 +167,6 @@ module _ (i : List ℕ) (ok : accepted i ≡ true) (p : Parts) (ep : p ≡ parts
         number = let m = s .number in omega arith;
         same = s .same ∙ scan-on v (times i) b up j l (λ q. n (at ∙ q));
       }
-
-  pub few : b ≤ 2 ^ 32
-  few = let k = number-small i ok p ep (b - 1) (omega (arith, g .some, g .upto)) in omega arith
 
 -- ---- the halving
 
@@ -219,8 +229,8 @@ module _ (v : ℕ) (T : List ℕ) where
       told : (q : Order) → o ≡ q → Ordered q (getD T (mid a b) 0) v
       told q e = subst (λ (y : Order). Ordered y (getD T (mid a b) 0) v) e is
 
-      pub is-middle : o ≡ order.Equal → value (mid a b) ≡ halve v T (b - a) a b
-      is-middle e = sym (more ∙ middle a b (b - a) h (told order.Equal e))
+      pub is-middle : b ≤ 2 ^ 32 → o ≡ order.Equal → ofSpot (mid a b) ≡ halve v T (b - a) a b
+      is-middle few e = spot-some (mid a b) (λ q. omega arith) ∙ sym (more ∙ middle a b (b - a) h (told order.Equal e))
 
       pub is-left : o ≡ order.Above → (r : Answer) → r ≡ halve v T (mid a b - a) a (mid a b) → r ≡ halve v T (b - a) a b
       is-left e r er =

@@ -8,7 +8,7 @@ ghost use lib.ListN.{getD, take as takeList, drop};
 ghost use Rattle.elias_fano.specs.Accept.{times, ofNumber};
 ghost use Rattle.elias_fano.specs.Ask.{Binsearch, BinsearchRange, scan, halve, asked, query};
 ghost use Rattle.elias_fano.specs.Opening.{Open};
-ghost use Rattle.elias_fano_walk.specs.Searching.{Range, Searchable, Ordered, ScanStart};
+ghost use Rattle.elias_fano_walk.specs.Searching.{Range, Searchable, Ordered, ScanStart, ofSpot};
 use crate::walk::begin;
 use crate::walk::take;
 use broadword::debruijn64_table;
@@ -23,6 +23,9 @@ use elias_fano::image::value_of;
 use errors::Refusal;
 
 const LINEAR_SCAN_THRESHOLD: usize = 64;
+
+// What the halving and the scan answer where no value is val: an answer of one word comes back in a register, however deep the calls.
+const NOWHERE: usize = usize::MAX;
 
 // How a value of the sequence stands to the one that is looked for.
 enum Order {
@@ -94,7 +97,7 @@ fn scan_start(image: &[u64], p: Parts, a: usize, b: usize, val: u64, table: &[u8
     a
 }
 
-// The number of the first value from a on and below b that is val. The values do not fall, so it ends at the first that is not below val.
+// The number of the first value from a on and below b that is val, or NOWHERE. The values do not fall, so it ends at the first that is not below val.
 fn scan_range(
     image: &[u64],
     p: Parts,
@@ -103,9 +106,9 @@ fn scan_range(
     val: u64,
     table: &[u8; 2048],
     places: &[u8; 64],
-) -> Number
+) -> usize
     requires { ⌜ (Searchable (now image) p (now table) (now places) × Range p a b) ⌝ }
-    ensures { λ r. ⌜ ofNumber r ≡ scan val a (takeList (b - a) (drop a (times (now (image .entry))))) ⌝ }
+    ensures { λ r. ⌜ ofSpot r ≡ scan val a (takeList (b - a) (drop a (times (now (image .entry))))) ⌝ }
 {
     let from = scan_start(image, p, a, b, val, table);
     let mut w = begin(image, p, from, table);
@@ -114,16 +117,16 @@ fn scan_range(
         let t = take(image, p, w, places);
         let x = t.value;
         if x == val {
-            return Number::Is(i);
+            return i;
         }
         if val < x {
-            return Number::Nothing;
+            return NOWHERE;
         }
         let rest = t.walk;
         w = rest;
         i += 1;
     }
-    Number::Nothing
+    NOWHERE
 }
 
 // The search from a on and below b: it calls itself on the half that can hold the value.
@@ -135,16 +138,16 @@ fn halve_range(
     val: u64,
     table: &[u8; 2048],
     places: &[u8; 64],
-) -> Number
+) -> usize
     requires { ⌜ (Searchable (now image) p (now table) (now places) × Range p a b) ⌝ }
-    ensures { λ r. ⌜ ofNumber r ≡ halve val (times (now (image .entry))) (b - a) a b ⌝ }
+    ensures { λ r. ⌜ ofSpot r ≡ halve val (times (now (image .entry))) (b - a) a b ⌝ }
 {
     if b - a <= LINEAR_SCAN_THRESHOLD {
         return scan_range(image, p, a, b, val, table, places);
     }
     let mid = (a + b) / 2;
     match compare(image, p, mid, val, table) {
-        Order::Equal => Number::Is(mid),
+        Order::Equal => mid,
         Order::Above => halve_range(image, p, a, mid, val, table, places),
         Order::Below => halve_range(image, p, mid + 1, b, val, table, places),
     }
@@ -169,7 +172,11 @@ pub fn binsearch_range_opened(
     if b > p.num_pushed as usize {
         return Number::Refused(Refusal::RangeOutOfBounds);
     }
-    halve_range(image, p, a, b, val, table, places)
+    let found = halve_range(image, p, a, b, val, table, places);
+    if found == NOWHERE {
+        return Number::Nothing;
+    }
+    Number::Is(found)
 }
 
 // The number of a value that is val, of an opened image.

@@ -152,7 +152,7 @@ halve-range-returns-2 : (t : ℕ) → halve-range-lts.Need-returns-2 (
 ) (halve-range-at t) halve-range.Post
 halve-range-returns-2 t c =
     let s = c .before .before .before .before .before in
-    searched.is-middle (s .args .val) _ (s .args .a) (s .args .b) (c .before .before .before .if1 .left) (c .before .before .compare .result) (c .before .before .compare .ensures) (c .enum-told .given .1)
+    searched.is-middle (s .args .val) _ (s .args .a) (s .args .b) (c .before .before .before .if1 .left) (c .before .before .compare .result) (c .before .before .compare .ensures) (searched.few (s .args .image .now) (s .pre .1 .0 .opened .ok) (s .args .p) (s .pre .1 .0 .opened .parts) (s .args .val) (s .args .a) (s .args .b) (s .pre .1 .1)) (c .enum-told .given .1)
 
 halve-range-returns-3 : (t : ℕ) → halve-range-lts.Need-returns-3 (
   scan-range-reads.Asked,

@@ -1,6 +1,7 @@
 -- `elias_fano_walk::search::binsearch_range_opened` meets its contract.
 -- Assumes nothing.
 use borrow.Author.Needs.{needs}
+use mathlib.Core.Path.{sym, _∙_}
 use Rattle.elias_fano_walk.proofs.Searched as searched
 use Rattle.elias_fano_walk.proofs.search.binsearch_range_opened.Statement.{statement}
 use Rattle.elias_fano_walk.proofs.search.binsearch_range_opened.Tie as tie
@@ -15,7 +16,10 @@ halve-range-requires : tie.Need-halve-range-requires
 halve-range-requires c κs = search needs
 
 returns-3 : tie.Need-returns-3
-returns-3 c = let s = c .before .before .before .before in searched.search-found (s .args .image .now) (s .pre .opened .ok) (s .args .p) (s .pre .opened .parts) (s .args .val) (s .args .a) (s .args .b) (c .before .before .if1 .left) (c .before .if2 .left) _ (c .halve-range .ensures)
+returns-3 c = let s = c .before .before .before .before .before in searched.search-found (s .args .image .now) (s .pre .opened .ok) (s .args .p) (s .pre .opened .parts) (s .args .val) (s .args .a) (s .args .b) (c .before .before .before .if1 .left) (c .before .before .if2 .left) _ (sym (searched.spot-none _ (c .if3 .taken)) ∙ c .before .halve-range .ensures)
+
+returns-4 : tie.Need-returns-4
+returns-4 c = let s = c .before .before .before .before .before in searched.search-found (s .args .image .now) (s .pre .opened .ok) (s .args .p) (s .pre .opened .parts) (s .args .val) (s .args .a) (s .args .b) (c .before .before .before .if1 .left) (c .before .before .if2 .left) _ (sym (searched.spot-some _ (c .if3 .left)) ∙ c .before .halve-range .ensures)
 
 pub binsearch-range-opened-spec : {M : Type 1} → statement M
-binsearch-range-opened-spec = tie.close (tie.spec returns returns-2 halve-range-requires returns-3)
+binsearch-range-opened-spec = tie.close (tie.spec returns returns-2 halve-range-requires returns-3 returns-4)
