@@ -55,18 +55,25 @@ struct One {
     rest: u64,
 }
 
+// The walk from a number on from which there is no value.
+pub fn ended(k: usize) -> Walk
+    ensures { λ r. ⌜ r .number ≡ k ⌝ }
+{
+    Walk {
+        number: k,
+        base: 0,
+        rest: 0,
+        lows: 1,
+    }
+}
+
 // The walk from the value with the number k on.
 pub fn begin(image: &[u64], p: Parts, k: usize, table: &[u8; 2048]) -> Walk
     requires { ⌜ Open (now image) p (now table) ⌝ }
     ensures { λ r. ⌜ (WalkOver (now (image .entry)) p r × (r .number ≡ k)) ⌝ }
 {
     if k >= p.num_pushed as usize {
-        return Walk {
-            number: k,
-            base: 0,
-            rest: 0,
-            lows: 1,
-        };
+        return ended(k);
     }
     let start = p.low_at;
     let place = one_at(image, p, k, table);

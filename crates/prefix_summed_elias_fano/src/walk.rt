@@ -14,7 +14,6 @@ ghost use Rattle.elias_fano.specs.Ask.{readOut, filled};
 ghost use Rattle.elias_fano.specs.Opening.{Open};
 ghost use Rattle.elias_fano_walk.specs.Walking.{valueStepOf};
 ghost use Rattle.prefix_summed_elias_fano.specs.Items.{itemsOf, ItemsOver, StartsItems, ofItemStep, readItemsOf};
-use bit_vectors::unary::Unary;
 use broadword::debruijn64_table;
 use broadword::select_in_byte_table;
 use elias_fano::image::Number;
@@ -26,6 +25,7 @@ use elias_fano::image::value_of;
 use elias_fano_walk::read::how_many;
 use elias_fano_walk::walk::Walk;
 use elias_fano_walk::walk::begin;
+use elias_fano_walk::walk::ended;
 use elias_fano_walk::walk::take;
 use errors::Refusal;
 
@@ -99,15 +99,7 @@ fn place_in_none(k: usize) -> ItemPlace
             zeros_at: 0,
         },
         before: 0,
-        walk: Walk {
-            number: k,
-            low: 0,
-            ones: Unary {
-                position: 0,
-                from: 0,
-                buf: 0,
-            },
-        },
+        walk: ended(k),
     }
 }
 

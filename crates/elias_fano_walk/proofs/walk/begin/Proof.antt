@@ -9,8 +9,11 @@ use Rattle.elias_fano_walk.proofs.Walked as walked
 use Rattle.elias_fano_walk.proofs.walk.begin.Statement.{statement}
 use Rattle.elias_fano_walk.proofs.walk.begin.Tie as tie
 
+ended-requires : tie.Need-ended-requires
+ended-requires c κs = search needs
+
 returns : tie.Need-returns
-returns c = ((λ h. absurd (omega (arith, c .if1 .taken))), refl)
+returns c = ((λ h. absurd (omega (arith, c .before .if1 .taken, c .ended .ensures))), c .ended .ensures)
 
 one-at-requires : tie.Need-one-at-requires
 one-at-requires c κs = search needs
@@ -39,6 +42,7 @@ pub begin-spec : {M : Type 1} → statement M
 begin-spec =
     tie.close
     (tie.spec
+    ended-requires
     returns
     one-at-requires
     sub-walk-from
