@@ -89,11 +89,12 @@ def add_refused(add):
 
 
 def add_far(add):
-    add.note("blocks in the overflow list: of ones, of zeros, and of both")
+    add.note("all the bits that the console holds, and blocks of ones in the overflow list; of zeros it would take 2^22 bits")
     length = 64 * 4_096
     spread = list(range(0, length, 9))
-    dense = list(range(90_000)) + [length - 1]
-    for ones in ([0, length - 1], spread, dense, list(range(length - 40_000, length)), list(range(0, 70_000, 2)) + [length - 2]):
+    # the block from 59,392 on spans 65,535 high bits, then 65,536
+    near, far = (list(range(60_000)) + list(range(b, b + 30_000)) for b in (188_001, 188_003))
+    for ones in ([0, length - 1], spread, near, far, list(range(90_000)) + [length - 1]):
         bits(add, length, ones)
         add("buffer 65536 0")
         for rank in (0, 1):

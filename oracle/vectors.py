@@ -992,6 +992,7 @@ def make(seed, count):
     records.add_records(add, count // 10)
     questions.add_questions(add, count // 13)
     sums.add_sums(add, count // 20)
+    from_bits.add_from_bits(add, count // 20)
     for line in documented.lines():
         add(line)
     add.note("the last line lacks its line feed")
