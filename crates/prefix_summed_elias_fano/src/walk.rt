@@ -67,8 +67,8 @@ fn sum_before(image: &[u64], p: Parts, k: usize, table: &[u8; 2048]) -> u64
     value_of(image, p, k - 1, table)
 }
 
-// The place k of an accepted image.
-fn place_in(image: &[u64], p: Parts, k: usize) -> ItemPlace
+// The place k of an accepted image, as `begin` of the walk over its values.
+fn begin_items(image: &[u64], p: Parts, k: usize) -> ItemPlace
     requires { ⌜ ((accepted (now image) ≡ true) × (p ≡ partsOf (now image))) ⌝ }
     ensures { λ r. ⌜ (ItemsOver (now (image .entry)) r × (r .walk .number ≡ k)) ⌝ }
 {
@@ -83,7 +83,7 @@ fn place_in(image: &[u64], p: Parts, k: usize) -> ItemPlace
 }
 
 // The place k of no words.
-fn place_in_none(k: usize) -> ItemPlace
+fn begin_none(k: usize) -> ItemPlace
     ensures { λ r. ⌜ ((r .parts .«num_pushed» ≡ 0) × (r .walk .number ≡ k)) ⌝ }
 {
     ItemPlace {
@@ -108,10 +108,10 @@ pub fn start_items(image: &[u64], k: usize) -> ItemsStart
     ensures { λ r. ⌜ StartsItems (now (image .entry)) k r ⌝ }
 {
     if image.len() == 0 {
-        return ItemsStart::ItemPlace(place_in_none(k));
+        return ItemsStart::ItemPlace(begin_none(k));
     }
     match open(image) {
-        Opened::Image(p) => ItemsStart::ItemPlace(place_in(image, p, k)),
+        Opened::Image(p) => ItemsStart::ItemPlace(begin_items(image, p, k)),
         Opened::Refused(e) => ItemsStart::Refused(e),
     }
 }
