@@ -1,13 +1,15 @@
 // Broadword tools: products that wrap, the number of ones of a word, and the places where they stand.
 //
 // All run in constant time. `select_in_word_by` and `lsb_by` are `select_in_word` and `lsb` for a caller that loops: they are lent the table, which
-// `select_in_byte_table` and `debruijn64_table` make, and demand that it is that table. The functions that are not public demand what they say.
+// `select_in_byte_table` and `debruijn64_table` make, and demand that it is that table. `select_in_word_within` also demands that there is such a
+// one. The functions that are not public demand what they say.
 ghost use mathlib.Core.Path.{_≡_};
 ghost use Prim.Native.Nat.{ℕ, _*_, _%_, _^_, _<_};
 ghost use lib.Dec.{leb};
 ghost use Rattle.broadword.specs.Bits.{bit, count, ones};
 ghost use Rattle.broadword.specs.Fields.{digit, word, flag, LowBytes};
 ghost use Rattle.broadword.specs.Places.{last, select, orElse, SelectInByte, Debruijn64};
+ghost use Rattle.broadword.specs.declared.Found.the-variants.{At};
 
 mod tables;
 
@@ -116,6 +118,19 @@ fn select_in_byte(table: &[u8; 2048], b: usize, r: usize) -> usize
     wide(table[b | (r << 8)])
 }
 
+// The place of the one that k ones stand before, in a word that has more than k, with the table lent.
+pub fn select_in_word_within(table: &[u8; 2048], x: u64, k: usize) -> usize
+    requires { ⌜ (SelectInByte (now table) × (k < ones x 64)) ⌝ }
+    ensures { λ r. ⌜ select (bit x) 64 k ≡ At r ⌝ }
+{
+    let byte_sums = wrapping_mul(ONES_STEP_8, byte_counts(x));
+    let k_step_8 = k as u64 * ONES_STEP_8;
+    let geq_k_step_8 = ((k_step_8 | MSBS_STEP_8) - byte_sums) & MSBS_STEP_8;
+    let place = ((wrapping_mul(geq_k_step_8 >> 7, ONES_STEP_8) >> 53) & !0x7) as usize;
+    let byte_rank = k - (((byte_sums << 8) >> place) & 0xff) as usize;
+    place + select_in_byte(table, (x >> place) as usize & 0xff, byte_rank)
+}
+
 // `select_in_word`, with the table lent.
 pub fn select_in_word_by(table: &[u8; 2048], x: u64, k: usize) -> Found
     requires { ⌜ SelectInByte (now table) ⌝ }
@@ -124,13 +139,7 @@ pub fn select_in_word_by(table: &[u8; 2048], x: u64, k: usize) -> Found
     if popcount(x) <= k {
         return Found::Nothing;
     }
-    let byte_sums = wrapping_mul(ONES_STEP_8, byte_counts(x));
-    let k_step_8 = k as u64 * ONES_STEP_8;
-    let geq_k_step_8 = ((k_step_8 | MSBS_STEP_8) - byte_sums) & MSBS_STEP_8;
-    let place = ((wrapping_mul(geq_k_step_8 >> 7, ONES_STEP_8) >> 53) & !0x7) as usize;
-    let byte_rank = k - (((byte_sums << 8) >> place) & 0xff) as usize;
-    let sel = select_in_byte(table, (x >> place) as usize & 0xff, byte_rank);
-    Found::At(place + sel)
+    Found::At(select_in_word_within(table, x, k))
 }
 
 // The place of the one that k ones stand before.
