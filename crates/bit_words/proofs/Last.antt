@@ -1,23 +1,24 @@
 -- The last one at or before a place, by words: the low bits of its word, and else the last word below that is not 0. Assumes nothing.
 use mathlib.Core.Path.{_≡_, refl, sym, ap, _∙_}
 use mathlib.Core.List.{List}
-use Prim.Native.Nat.{ℕ, suc, _+_, _-_, _*_, _/_, _%_, _^_, _≤_, _<_}
+use Prim.Native.Nat.{ℕ, zero, suc, _+_, _-_, _*_, _/_, _%_, _^_, _≤_, _<_}
 use native.Mathlib.Nat.{lt-of-not-le, mod-eq-of-lt, mod-lt, lt-of-lt-of-le}
 use native.Mathlib.Decide.{decLe, decLt}
 use native.Mathlib.Omega.{arith}
-use lib.ListN.{getD}
+use lib.ListN.{length, getD, take}
 use lib.Pow.{pow-pos, pow-mono}
-use Rattle.broadword.specs.Bits.{bit}
+use Rattle.broadword.specs.Bits.{bit, count}
 use Rattle.broadword.specs.Fields.{digit, word}
 use Rattle.broadword.specs.Places.{last}
 use Rattle.broadword.specs.declared.Found.{Found}
 use Rattle.broadword.specs.declared.Found.the-variants.{At, Nothing}
-use Rattle.broadword.proofs.Count.{bit-le, bit-mod, bit-above}
+use Rattle.broadword.proofs.Count.{bit-le, bit-mod, bit-above, count-zero}
 use Rattle.broadword.proofs.Fields.{word-digits, word-same}
 use Rattle.broadword.proofs.Find.{last-is, last-nothing, last-at, last-none}
 use Rattle.bit_words.specs.Vector.{bitAt}
 use Rattle.bit_words.specs.Inner.{Ending, Within, placeIn}
 use Rattle.bit_words.proofs.Runs.{bit-digit-1, bitAt-word, bitAt-le}
+use Rattle.bit_words.proofs.Windows.{window-at}
 
 -- a bit that is not 1 is 0
 pub not-one : (b : ℕ) → b ≤ 1 → (b ≡ 1 → ⊥) → b ≡ 0
@@ -134,3 +135,30 @@ module _ (ws : List ℕ) (pos : ℕ) where
     pub found-before : (i : ℕ) → n ≡ suc i → (r : Found) → r ≡ last (bit (getD ws i 0)) 64 → getD ws i 0 < 2 ^ 64 → placeIn i r ≡ last (bitAt ws) (pos + 1)
     found-before i en (At b) e h = sym (below ws pos n none-here end i b en (sym e) .1)
     found-before i en Nothing e h = absurd (not-zero ws pos n none-here end i en h (sym e))
+
+-- ---- a last one that there is
+
+pub some-last : (f : ℕ → ℕ) → ((j : ℕ) → f j ≤ 1) → (end : ℕ) → 0 < count f end → last f end ≡ Nothing → ⊥
+some-last f bits end h e = let z = count-zero f end (λ j l. not-one (f j) (bits j) (last-nothing f end e j l)) in omega arith
+
+pub some-place : (f : ℕ → ℕ) (end : ℕ) → 0 < count f end → 1 ≤ end
+unfolding count
+some-place f zero h = absurd (omega arith)
+some-place f (suc end) h = omega arith
+
+-- in the 64 bits before the end
+pub near : (ws : List ℕ) (end w b : ℕ) → 64 ≤ end → end ≤ length ws * 64 → w ≡ word 1 (λ i. bitAt (take (length ws) ws) (end - 64 + i)) 64 → last (bit w) 64 ≡ At b
+    → (b < 64) × (last (bitAt ws) end ≡ At (end - 64 + b))
+near ws end w b h u ew e =
+    let r = last-is (bit w) 64 b e in
+    let l : b < 64 = r .within in (
+      l,
+      last-at (bitAt ws) end (end - 64 + b) (omega arith) (sym (at b l) ∙ r .one) (λ j p q.
+          let d : ℕ = j - (end - 64) in
+          let s : end - 64 + d ≡ j = omega arith in
+          let k : d < 64 = omega arith in
+          not-one (bitAt ws j) (bitAt-le ws j) (λ o. r .after d (omega arith) k (at d k ∙ ap (bitAt ws) s ∙ o))),
+    )
+  where
+    at : (j : ℕ) → j < 64 → bit w j ≡ bitAt ws (end - 64 + j)
+    at j l = ap (λ (y : ℕ). bit y j) ew ∙ window-at ws (length ws) (end - 64) j l (omega arith)

@@ -3,20 +3,22 @@ use mathlib.Core.Path.{_≡_, sym, ap, ap₂, _∙_, subst}
 use mathlib.Core.List.{List}
 use mathlib.Core.Bool.{Bool}
 use Prim.Native.Nat.{ℕ, _+_, _-_, _*_, _/_, _%_, _^_, _≤_, _<_}
-use native.Mathlib.Nat.{le-refl, le-of-lt, lt-of-le-of-lt, lt-of-not-le, mul-div-cancel, zero-add, mod-eq-of-lt}
+use native.Mathlib.Nat.{le-refl, le-of-lt, le-of-eq, lt-of-le-of-lt, lt-of-lt-of-le, lt-of-not-le, mod-lt, mul-div-cancel, zero-add, mod-eq-of-lt}
 use native.Mathlib.Decide.{decLt}
 use native.Mathlib.Omega.{arith}
-use lib.ListN.{getD}
-use lib.Pow.{pow-pos, split}
+use lib.ListN.{getD, take}
+use lib.Pow.{pow-pos, pow-mono, split}
 use Rattle.broadword.specs.Bits.{bit, count, ones}
+use Rattle.broadword.specs.Fields.{word}
 use Rattle.broadword.specs.Places.{select}
 use Rattle.broadword.specs.declared.Found.{Found}
 use Rattle.broadword.specs.declared.Found.the-variants.{At, Nothing}
-use Rattle.broadword.proofs.Count.{bit-le, bit-shift, count-add, count-zero, count-same}
+use Rattle.broadword.proofs.Count.{bit-le, bit-above, bit-mod, bit-shift, count-add, count-mono, count-zero, count-same}
 use Rattle.broadword.proofs.Find.{selected, select-at, select-none, select-some}
-use Rattle.bit_words.specs.Vector.{bitOver, wordOver}
+use Rattle.bit_words.specs.Vector.{bitAt, bitOver, wordOver}
 use Rattle.bit_words.specs.Inner.{Skipped, placeIn}
-use Rattle.bit_words.proofs.Runs.{Fit, left-lt, wordOver-lt, bit-under, bitOver-word, count-word}
+use Rattle.bit_words.proofs.Runs.{Fit, left-lt, wordOver-lt, bit-under, bitOver-le, bitOver-word, count-word, select-few}
+use Rattle.bit_words.proofs.Windows.{window-bit}
 
 -- ---- the bits of a word from the place s on
 
@@ -140,3 +142,82 @@ module _ (b : Bool) (ws : List ℕ) (fit : Fit ws) where
   first-is from y e =
       ap (λ (z : ℕ). (z / 2 ^ (from % 64) * 2 ^ (from % 64)) % 2 ^ 64) e
       ∙ shifted-rest (wordOver b (getD ws (from / 64) 0)) (from % 64) (wordOver-lt b (getD ws (from / 64) 0) (fit (from / 64)))
+
+-- ---- a search in the 64 bits from a place on, for a one that there is
+
+module _ (b : Bool) (ws : List ℕ) (used from k x : ℕ) (is : x ≡ wordOver b (word 1 (λ i. bitAt (take used ws) (from + i)) 64)) (some : count (bitOver b ws) from + k < count (bitOver b ws) (used * 64)) where
+  abbrev F : ℕ → ℕ
+  F = bitOver b ws
+
+  ahead-bit : (j : ℕ) → j < 64 → from + j < used * 64 → bit x j ≡ F (from + j)
+  ahead-bit j l u = ap (λ (y : ℕ). bit y j) is ∙ window-bit b ws used from j l u
+
+  ahead-count : (j : ℕ) → j ≤ 64 → from + j ≤ used * 64 → count F (from + j) ≡ count F from + ones x j
+  ahead-count j l u =
+      count-add F from j
+      ∙ ap (λ (y : ℕ). count F from + y) (sym (count-same (bit x) (λ i. F (from + i)) j (λ i h. ahead-bit i (omega arith) (omega arith))))
+
+  -- the bits up to the end are not too few
+  within : (t : ℕ) → ones x t ≤ k → t ≤ 64 → from ≤ used * 64 → from + t < used * 64
+  within t o l u =
+      lt-of-not-le (λ (g : used * 64 ≤ from + t).
+      let d : from + (used * 64 - from) ≡ used * 64 = omega arith in
+      let a = ahead-count (used * 64 - from) (omega arith) (omega arith) in
+      let c = ap (count F) d in
+      let m = count-mono (bit x) (used * 64 - from) t (omega arith) in
+      omega arith)
+
+  pub ahead-at : (t : ℕ) → from ≤ used * 64 → select (bit x) 64 k ≡ At t → (from + t < used * 64) × (select F (used * 64) (count F from + k) ≡ At (from + t))
+  ahead-at t u e =
+      let r = selected (bit x) 64 k t e in
+      let w = within t (le-of-eq (r .before)) (le-of-lt (r .within)) u in (
+        w,
+        select-at F (used * 64) (count F from + k) (from + t) w (sym (ahead-bit t (r .within) w) ∙ r .one)
+            (ahead-count t (le-of-lt (r .within)) (le-of-lt w) ∙ ap (λ (y : ℕ). count F from + y) (r .before)),
+      )
+
+-- ---- the same word by word, from the beginning of the place's own word on
+
+pub some-select : (b : Bool) (ws : List ℕ) (n m : ℕ) → m < count (bitOver b ws) n → (r : Found) → r ≡ select (bitOver b ws) n m → r ≡ Nothing → ⊥
+some-select b ws n m h r er e = let f = select-few (bitOver b ws) (bitOver-le b ws) n n m (sym er ∙ e) in omega arith
+
+-- the ones of the lowest bits
+ones-low : (x s : ℕ) → s ≤ 64 → ones (x % 2 ^ s) 64 ≡ ones x s
+ones-low x s h =
+    let y : ℕ = x % 2 ^ s in
+    let e : s + (64 - s) ≡ 64 = omega arith in
+    let z : count (λ i. bit y (s + i)) (64 - s) ≡ 0 = count-zero (λ i. bit y (s + i)) (64 - s) (λ i _. bit-above y (s + i) (lt-of-lt-of-le (mod-lt x (pow-pos s)) (pow-mono (let g : s ≤ s + i = omega arith in g)))) in
+    let a : count (bit y) s ≡ count (bit x) s = count-same (bit y) (bit x) s (λ i l. bit-mod x s i l) in
+    let c = count-add (bit y) s (64 - s) in
+    ap (count (bit y)) (sym e) ∙ (let d : count (bit y) (s + (64 - s)) ≡ count (bit x) s = omega arith in d)
+
+-- the ones of the place's own word before it
+pub own-word : (b : Bool) (ws : List ℕ) → Fit ws → (from p : ℕ) → p ≡ ones (wordOver b (getD ws (from / 64) 0) % 2 ^ (from % 64)) 64 → count (bitOver b ws) from ≡ count (bitOver b ws) (from / 64 * 64) + p
+own-word b ws fit from p ep =
+    let d : from / 64 * 64 + from % 64 ≡ from = omega arith in
+    ap (count (bitOver b ws)) (sym d) ∙ count-word (bitOver b ws) (λ i. wordOver b (getD ws i 0)) (bitOver-word b ws fit) (from / 64) (from % 64) (omega arith)
+    ∙ ap (λ (y : ℕ). count (bitOver b ws) (from / 64 * 64) + y) (sym (ep ∙ ones-low (wordOver b (getD ws (from / 64) 0)) (from % 64) (omega arith)))
+
+module _ (b : Bool) (ws : List ℕ) (fit : Fit ws) (used from k p i left : ℕ) (some : count (bitOver b ws) from + k < count (bitOver b ws) (used * 64)) (ep : p ≡ ones (wordOver b (getD ws (from / 64) 0) % 2 ^ (from % 64)) 64) (s : Skipped (bitOver b ws) (from / 64) used (k + p) i left) where
+  spot-total : count (bitOver b ws) (i * 64) + left ≡ count (bitOver b ws) from + k
+  spot-total =
+      let o = own-word b ws fit from p ep in
+      let e = s .before in
+      omega arith
+
+  pub spot-used : i < used
+  spot-used =
+      lt-of-not-le (λ (g : used ≤ i).
+      let t = spot-total in
+      let m = count-mono (bitOver b ws) (used * 64) (i * 64) (omega arith) in
+      omega arith)
+
+  pub spot-left : (x : ℕ) → x ≡ wordOver b (getD ws i 0) → left < ones x 64
+  spot-left x ex = left-lt b ws fit i left x ex (s .here spot-used)
+
+  pub spot-at : (x t : ℕ) → x ≡ wordOver b (getD ws i 0) → select (bit x) 64 left ≡ At t → (t < 64) × (select (bitOver b ws) (used * 64) (count (bitOver b ws) from + k) ≡ At (i * 64 + t))
+  spot-at x t ex e =
+      let r = word-at b ws fit i left x t ex e in
+      let u = spot-used in
+      let l = r .0 in
+      (l, select-at (bitOver b ws) (used * 64) (count (bitOver b ws) from + k) (i * 64 + t) (omega arith) (r .1) (r .2 ∙ spot-total))

@@ -1,8 +1,9 @@
 -- A window of 64 bits over two neighbouring words, and the lowest bits of one. Assumes nothing.
 use mathlib.Core.Path.{_≡_, sym, ap, _∙_, subst, subst⁻¹}
 use mathlib.Core.List.{List}
+use mathlib.Core.Bool.{Bool, true, false}
 use Prim.Native.Nat.{ℕ, _+_, _-_, _*_, _/_, _%_, _^_, _≤_, _<_}
-use native.Mathlib.Nat.{mul-one, mul-comm, div-one, mod-eq-of-lt, div-add-mod', mod-lt, div-lt-iff-lt-mul, lt-of-lt-of-le, lt-of-le-of-lt, div-le-self, lt-of-not-le}
+use native.Mathlib.Nat.{mul-one, mul-comm, mod-eq-of-lt, div-add-mod', mod-lt, div-lt-iff-lt-mul, lt-of-lt-of-le, lt-of-le-of-lt, div-le-self, lt-of-not-le, mul-add-mod-self-right}
 use native.Mathlib.Decide.{decLt}
 use native.Mathlib.Omega.{arith}
 use lib.ListN.{getD, take}
@@ -12,9 +13,13 @@ use lib.Bits.{bitOr, or-shifted-r}
 use Rattle.broadword.specs.Bits.{bit}
 use Rattle.broadword.specs.Fields.{digit, word}
 use Rattle.broadword.proofs.Count.{bit-mod, bit-shift}
-use Rattle.broadword.proofs.Fields.{digit-word, word-digits, word-same}
-use Rattle.bit_words.specs.Vector.{bitAt}
-use Rattle.bit_words.proofs.Runs.{bit-digit-1, bitAt-word, bitAt-le, bitAt-take}
+use Rattle.broadword.proofs.Fields.{digit-word, word-digits, word-lt, word-same}
+use Rattle.bit_words.specs.Vector.{bitAt, bitOver, wordOver}
+use Rattle.bit_words.proofs.Runs.{bit-digit-1, bit-not, bitAt-word, bitAt-le, bitAt-take}
+
+-- a bit of a number that is made of bits
+pub number-bit : (f : ℕ → ℕ) (n i : ℕ) → ((j : ℕ) → f j ≤ 1) → i < n → bit (word 1 f n) i ≡ f i
+number-bit f n i h l = sym (bit-digit-1 (word 1 f n) i) ∙ digit-word 1 f n (λ j _. omega (arith, h j)) i l
 
 -- the bits of a number from s on, as a number
 pub number-bits : (x s n : ℕ) → word 1 (λ i. bit x (s + i)) n ≡ x / 2 ^ s % 2 ^ n
@@ -86,19 +91,38 @@ module _ (s : ℕ) (h : s ≤ 64) where
       ∙ sym (by-parts P Q v w (pow-pos s) hw′)
       ∙ ap (λ (y : ℕ). (v * y + w) / P % y) pow-parts
 
+-- the low part of a product's first factor gives its low part
+mod-mul : (a b M : ℕ) → (a % M * b) % M ≡ (a * b) % M
+mod-mul a b M =
+    let d : (q r : ℕ) → (q * M + r) * b ≡ q * b * M + r * b = λ q r. omega arith in
+    sym (ap (λ (x : ℕ). (x * b) % M) (sym (div-add-mod' a M)) ∙ ap (λ (x : ℕ). x % M) (d (a / M) (a % M)) ∙ mul-add-mod-self-right (a / M * b) M (a % M * b))
+
+-- a shift by 64 - s in two steps, neither of which is by 64
+pub two-shifts : (v s : ℕ) → s < 64 → ((v * 2) % 2 ^ 64 * 2 ^ (63 - s)) % 2 ^ 64 ≡ (v * 2 ^ (64 - s)) % 2 ^ 64
+two-shifts v s h =
+    let p : 2 ^ (64 - s) ≡ 2 * 2 ^ (63 - s) = ap (λ (x : ℕ). 2 ^ x) (let e : 64 - s ≡ 1 + (63 - s) = omega arith in e) ∙ pow-add 2 1 (63 - s) in
+    let d : (P : ℕ) → v * 2 * P ≡ v * (2 * P) = λ P. omega arith in
+    mod-mul (v * 2) (2 ^ (63 - s)) (2 ^ 64) ∙ ap (λ (x : ℕ). x % 2 ^ 64) (d (2 ^ (63 - s)) ∙ ap (λ (x : ℕ). v * x) (sym p))
+
 -- and of the last one
 pub window-last : (s w : ℕ) → w < 2 ^ 64 → w / 2 ^ s ≡ (0 * 2 ^ 64 + w) / 2 ^ s % 2 ^ 64
 window-last s w h =
     sym (mod-eq-of-lt {n = w / 2 ^ s} {m = 2 ^ 64} (lt-of-le-of-lt (div-le-self w (2 ^ s)) h))
     ∙ ap (λ (y : ℕ). y / 2 ^ s % 2 ^ 64) (let e : w ≡ 0 * 2 ^ 64 + w = omega arith in e)
 
-pub window-whole : (v w : ℕ) → w < 2 ^ 64 → w / 2 ^ 0 ≡ (v * 2 ^ 64 + w) / 2 ^ 0 % 2 ^ 64
-window-whole v w h =
-    let e : w / 1 ≡ (v * 2 ^ 64 + w) / 1 % 2 ^ 64 = div-one w ∙ sym (ap (λ (y : ℕ). y % 2 ^ 64) (div-one (v * 2 ^ 64 + w)) ∙ digits-mod v {m = 2 ^ 64} {r = w} h) in
-    e
-
 -- the lowest bits of a window over the first `used` words, which hold them
 pub narrowed : (ws : List ℕ) (used pos width : ℕ) → width ≤ 64 → pos + width ≤ used * 64 → word 1 (λ i. bitAt (take used ws) (pos + i)) 64 % 2 ^ width ≡ word 1 (λ i. bitAt ws (pos + i)) width
 narrowed ws used pos width h l =
     number-low (λ i. bitAt (take used ws) (pos + i)) 64 width (λ i. bitAt-le (take used ws) (pos + i)) h
     ∙ word-same 1 (λ i. bitAt (take used ws) (pos + i)) (λ i. bitAt ws (pos + i)) width (λ i k. bitAt-take used ws (pos + i) (omega arith))
+
+-- a bit of the window over the first `used` words, and of that over their ones or zeros
+pub window-at : (ws : List ℕ) (used pos j : ℕ) → j < 64 → pos + j < used * 64 → bit (word 1 (λ i. bitAt (take used ws) (pos + i)) 64) j ≡ bitAt ws (pos + j)
+window-at ws used pos j l u = number-bit (λ i. bitAt (take used ws) (pos + i)) 64 j (λ i. bitAt-le (take used ws) (pos + i)) l ∙ bitAt-take used ws (pos + j) u
+
+pub window-bit : (b : Bool) (ws : List ℕ) (used pos j : ℕ) → j < 64 → pos + j < used * 64 → bit (wordOver b (word 1 (λ i. bitAt (take used ws) (pos + i)) 64)) j ≡ bitOver b ws (pos + j)
+unfolding bitOver
+window-bit true ws used pos j l u = window-at ws used pos j l u
+window-bit false ws used pos j l u =
+    bit-not (word 1 (λ i. bitAt (take used ws) (pos + i)) 64) j (word-lt 1 (λ i. bitAt (take used ws) (pos + i)) 64 (λ i _. omega (arith, bitAt-le (take used ws) (pos + i)))) l
+    ∙ ap (λ (y : ℕ). 1 - y) (window-at ws used pos j l u)

@@ -2,18 +2,21 @@
 //
 // `words_for` and `is_invalid` take anything. The others are inner: each demands the words that it reads, as its `requires` says.
 ghost use mathlib.Core.Path.{_≡_};
+ghost use mathlib.Core.Bool.{true};
 ghost use Prim.Native.Nat.{_+_, _-_, _*_, _/_, _%_, _^_, _<_, _≤_};
 ghost use mathlib.Core.List.{_++_};
 ghost use lib.ListN.{length, getD, take, drop, replicate};
 ghost use Rattle.broadword.specs.Bits.{count};
 ghost use Rattle.broadword.specs.Places.{last, select};
+ghost use Rattle.broadword.specs.declared.Found.the-variants.{At};
 ghost use Rattle.broadword.specs.Fields.{flag, word};
 ghost use Rattle.bit_words.specs.Vector.{bitAt, bitOver, wordsFor, invalid, wordOver, putBit, appended, overwrite};
 ghost use Rattle.bit_words.specs.Inner.{Skipped, Ending, Appendable, Overwritable, Within, placeIn, Findable};
 use broadword::Found;
+use broadword::lsb;
 use broadword::msb;
 use broadword::popcount;
-use broadword::select_in_word_by;
+use broadword::select_in_word_within;
 
 pub const WORD_LEN: usize = 64;
 
@@ -72,13 +75,19 @@ pub fn window(words: &[u64], used: usize, pos: usize) -> u64
     let at = pos / WORD_LEN;
     let shift = pos % WORD_LEN;
     let low = words[at] >> shift;
-    if shift == 0 {
-        return low;
-    }
     if used <= at + 1 {
         return low;
     }
-    low | (words[at + 1] << (WORD_LEN - shift))
+    low | ((words[at + 1] << 1) << (WORD_LEN - 1 - shift))
+}
+
+// The word whose ones are the ones, or the zeros, of the 64 bits from pos on.
+fn window_over(words: &[u64], used: usize, pos: usize, over_one: bool) -> u64
+    requires { ⌜ ((pos / 64 < used) × (used ≤ length (now words))) ⌝ }
+    ensures { λ r. ⌜ r ≡ wordOver «over_one» (word 1 (λ i. bitAt (take used (now (words .entry))) (pos + i)) 64) ⌝ }
+{
+    let bits = window(words, used, pos);
+    if over_one { bits } else { !bits }
 }
 
 // The ones below pos.
@@ -152,7 +161,7 @@ pub fn find_from(
     let first = (word_over(words, at, over_one) >> shift) << shift;
     let ones = popcount(first);
     if k < ones {
-        return place_in(at, select_in_word_by(table, first, k));
+        return Found::At(at * WORD_LEN + select_in_word_within(table, first, k));
     }
     let spot = skip_words(words, at + 1, used, over_one, k - ones);
     let word = spot.word;
@@ -160,10 +169,70 @@ pub fn find_from(
     if word == used {
         return Found::Nothing;
     }
-    place_in(
-        word,
-        select_in_word_by(table, word_over(words, word, over_one), left),
-    )
+    let bits = word_over(words, word, over_one);
+    Found::At(word * WORD_LEN + select_in_word_within(table, bits, left))
+}
+
+// The same where there is such a one or zero, as a place: word by word, from the beginning of the place's own word on.
+fn find_by_words(
+    words: &[u64],
+    used: usize,
+    over_one: bool,
+    table: &[u8; 2048],
+    from: usize,
+    k: usize,
+) -> usize
+    requires { ⌜ (Findable (now words) used from (now table) × (count (bitOver «over_one» (now words)) from + k < count (bitOver «over_one» (now words)) (used * 64))) ⌝ }
+    ensures { λ r. ⌜ select (bitOver «over_one» (now (words .entry))) (used * 64) (count (bitOver «over_one» (now (words .entry))) from + k) ≡ At r ⌝ }
+{
+    let at = from / WORD_LEN;
+    let before = popcount(low_bits(word_over(words, at, over_one), from % WORD_LEN));
+    let spot = skip_words(words, at, used, over_one, k + before);
+    let word = spot.word;
+    let left = spot.left;
+    let bits = word_over(words, word, over_one);
+    word * WORD_LEN + select_in_word_within(table, bits, left)
+}
+
+// The same: mostly the 64 bits from the place on have it, wherever its word begins.
+pub fn find_within(
+    words: &[u64],
+    used: usize,
+    over_one: bool,
+    table: &[u8; 2048],
+    from: usize,
+    k: usize,
+) -> usize
+    requires { ⌜ (Findable (now words) used from (now table) × (count (bitOver «over_one» (now words)) from + k < count (bitOver «over_one» (now words)) (used * 64))) ⌝ }
+    ensures { λ r. ⌜ select (bitOver «over_one» (now (words .entry))) (used * 64) (count (bitOver «over_one» (now (words .entry))) from + k) ≡ At r ⌝ }
+{
+    let bits = window_over(words, used, from, over_one);
+    if k < popcount(bits) {
+        return from + select_in_word_within(table, bits, k);
+    }
+    find_by_words(words, used, over_one, table, from, k)
+}
+
+// The place of the first one at the place `from` or after it, which there is, word by word.
+fn first_by_words(words: &[u64], used: usize, table: &[u8; 2048], from: usize) -> usize
+    requires { ⌜ (Findable (now words) used from (now table) × (count (bitOver true (now words)) from < count (bitOver true (now words)) (used * 64))) ⌝ }
+    ensures { λ r. ⌜ select (bitOver true (now (words .entry))) (used * 64) (count (bitOver true (now (words .entry))) from) ≡ At r ⌝ }
+{
+    match find_from(words, used, true, table, from, 0) {
+        Found::At(place) => place,
+        Found::Nothing => 0,
+    }
+}
+
+// The same: mostly it is one of the 64 bits from there on.
+pub fn first_from(words: &[u64], used: usize, table: &[u8; 2048], from: usize) -> usize
+    requires { ⌜ (Findable (now words) used from (now table) × (count (bitOver true (now words)) from < count (bitOver true (now words)) (used * 64))) ⌝ }
+    ensures { λ r. ⌜ select (bitOver true (now (words .entry))) (used * 64) (count (bitOver true (now (words .entry))) from) ≡ At r ⌝ }
+{
+    match lsb(window(words, used, from)) {
+        Found::At(bit) => from + bit,
+        Found::Nothing => first_by_words(words, used, table, from),
+    }
 }
 
 // How many of the first `end` words there are up to the last that is not 0.
@@ -198,6 +267,32 @@ pub fn last_upto(words: &[u64], pos: usize) -> Found
     }
     let i = n - 1;
     place_in(i, msb(words[i]))
+}
+
+// The place of the last one before `end`, which there is, word by word.
+fn last_by_words(words: &[u64], end: usize) -> usize
+    requires { ⌜ ((end ≤ length (now words) * 64) × (0 < count (bitAt (now words)) end)) ⌝ }
+    ensures { λ r. ⌜ last (bitAt (now (words .entry))) end ≡ At r ⌝ }
+{
+    match last_upto(words, end - 1) {
+        Found::At(place) => place,
+        Found::Nothing => 0,
+    }
+}
+
+// The same: mostly it is one of the 64 bits before `end`.
+pub fn last_before(words: &[u64], end: usize) -> usize
+    requires { ⌜ ((end ≤ length (now words) * 64) × (0 < count (bitAt (now words)) end)) ⌝ }
+    ensures { λ r. ⌜ last (bitAt (now (words .entry))) end ≡ At r ⌝ }
+{
+    if end < WORD_LEN {
+        return last_by_words(words, end);
+    }
+    let from = end - WORD_LEN;
+    match msb(window(words, words.len(), from)) {
+        Found::At(bit) => from + bit,
+        Found::Nothing => last_by_words(words, end),
+    }
 }
 
 // The first n words are set to x.

@@ -2,36 +2,23 @@
 use mathlib.Core.Path.{_≡_, sym, ap, ap₂, _∙_, subst⁻¹}
 use mathlib.Core.List.{List}
 use Prim.Native.Nat.{ℕ, suc, _+_, _-_, _*_, _/_, _%_, _^_, _≤_, _<_}
-use native.Mathlib.Nat.{div-add-mod', le-dest, lt-of-not-le, mul-add-mod-self-right, suc-mul}
+use native.Mathlib.Nat.{le-dest, lt-of-not-le, suc-mul}
 use native.Mathlib.Decide.{decLt}
 use native.Mathlib.Omega.{arith}
 use lib.Arith.{digits-mod}
 use lib.Bits.{bitAnd, bitOr, and-mask}
 use lib.Dec.{leb}
 use lib.ListN.{length, getD}
-use lib.Pow.{pow-pos, pow-add, mod-mod-pow}
+use lib.Pow.{pow-pos, mod-mod-pow}
 use Rattle.broadword.specs.Bits.{bit}
 use Rattle.broadword.specs.Fields.{word}
 use Rattle.broadword.proofs.Count.{bit-mod}
-use Rattle.broadword.proofs.Fields.{digit-word, word-same}
+use Rattle.broadword.proofs.Fields.{word-same}
 use Rattle.bit_words.specs.Vector.{bitAt}
-use Rattle.bit_words.proofs.Runs.{Fit, bit-digit-1, bitAt-le, bitAt-word}
-use Rattle.bit_words.proofs.Windows.{number-bits, two-words, window-or}
+use Rattle.bit_words.proofs.Runs.{Fit, bitAt-le, bitAt-word}
+use Rattle.bit_words.proofs.Windows.{number-bit, number-bits, two-words, two-shifts, window-or}
 use Rattle.bit_words.proofs.Packed.{one-shl}
 use Rattle.elias_fano_words.specs.Checks.{Held, lowBits}
-
--- the low part of a product's first factor gives its low part
-mod-mul : (a b M : ℕ) → (a % M * b) % M ≡ (a * b) % M
-mod-mul a b M =
-    let d : (q r : ℕ) → (q * M + r) * b ≡ q * b * M + r * b = λ q r. omega arith in
-    sym (ap (λ (x : ℕ). (x * b) % M) (sym (div-add-mod' a M)) ∙ ap (λ (x : ℕ). x % M) (d (a / M) (a % M)) ∙ mul-add-mod-self-right (a / M * b) M (a % M * b))
-
--- a shift by 64 - s in two steps, neither of which is by 64
-two-shifts : (v s : ℕ) → s < 64 → ((v * 2) % 2 ^ 64 * 2 ^ (63 - s)) % 2 ^ 64 ≡ (v * 2 ^ (64 - s)) % 2 ^ 64
-two-shifts v s h =
-    let p : 2 ^ (64 - s) ≡ 2 * 2 ^ (63 - s) = ap (λ (x : ℕ). 2 ^ x) (let e : 64 - s ≡ 1 + (63 - s) = omega arith in e) ∙ pow-add 2 1 (63 - s) in
-    let d : (P : ℕ) → v * 2 * P ≡ v * (2 * P) = λ P. omega arith in
-    mod-mul (v * 2) (2 ^ (63 - s)) (2 ^ 64) ∙ ap (λ (x : ℕ). x % 2 ^ 64) (d (2 ^ (63 - s)) ∙ ap (λ (x : ℕ). v * x) (sym p))
 
 -- the low bits of a low part
 pub mod-low : (x k n : ℕ) → n ≤ k → x % 2 ^ k % 2 ^ n ≡ x % 2 ^ n
@@ -71,10 +58,6 @@ module _ (ws : List ℕ) (fit : Fit ws) (pos next : ℕ) (after : pos / 64 + 1 <
 -- the low bits of v are those of the words from the place pos on
 abbrev From : List ℕ → ℕ → ℕ → Type 0
 From ws pos v = (n : ℕ) → n ≤ 64 → pos + n ≤ length ws * 64 → v % 2 ^ n ≡ word 1 (λ i. bitAt ws (pos + i)) n
-
--- a bit of a number that is made of bits
-pub number-bit : (f : ℕ → ℕ) (n i : ℕ) → ((j : ℕ) → f j ≤ 1) → i < n → bit (word 1 f n) i ≡ f i
-number-bit f n i h l = sym (bit-digit-1 (word 1 f n) i) ∙ digit-word 1 f n (λ j _. omega (arith, h j)) i l
 
 -- no low bits
 pub low-none : (low : List ℕ) (l pos : ℕ) → l ≡ 0 → word 1 (λ i. bitAt low (pos + i)) l ≡ 0
