@@ -10,7 +10,7 @@ use lib.ListN.{length, getD}
 use Rattle.broadword.specs.Bits.{count}
 use Rattle.broadword.specs.Places.{select}
 use Rattle.broadword.specs.declared.Found.the-variants.{At, Nothing}
-use Rattle.broadword.proofs.Count.{count-le}
+use Rattle.broadword.proofs.Count.{count-le, count-mono}
 use Rattle.broadword.proofs.Find.{Selected, select-none}
 use Rattle.bit_words.specs.Vector.{bitOver, wordsFor}
 use Rattle.bit_words.specs.Inner.{Findable}
@@ -214,8 +214,13 @@ module _ (ws : List ℕ) (len : ℕ) (b : Bool) (index : List ℕ) (n : ℕ) (ta
           let s = I .short in
           record { start = omega arith; room = omega arith; few = omega arith; rule = I .rule }
 
+      counted : count f (x + d) + k % 32 ≡ k
+      counted = let a : count f (x + d) ≡ 32 * (k / 32) = ap (count f) start-is ∙ start-has .before in omega arith
+
+      pub enough : (used : ℕ) → used ≡ wordsFor len → count f (x + d) + k % 32 < count f (used * 64)
+      enough used e = let c = counted in let m = count-mono f len (used * 64) (omega arith) in let i = in-count in omega arith
+
       pub searched : (used : ℕ) → used ≡ wordsFor len → select f (used * 64) (count f (x + d) + k % 32) ≡ select f len k
       searched used e =
-          let c : count f (x + d) + k % 32 ≡ k = (let a : count f (x + d) ≡ 32 * (k / 32) = ap (count f) start-is ∙ start-has .before in omega arith) in
           let p : pos P k < used * 64 = (let q = position-lt in omega arith) in
-          ap (select f (used * 64)) c ∙ narrow-in f (bitOver-le b ws) len (used * 64) k (pos P k) select-is p ∙ sym select-is
+          ap (select f (used * 64)) counted ∙ narrow-in f (bitOver-le b ws) len (used * 64) k (pos P k) select-is p ∙ sym select-is

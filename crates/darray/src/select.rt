@@ -1,13 +1,14 @@
 // Select through the index, in constant time. These functions are inner: each demands the index of the bits that it is lent, how many positions
-// the index has, and the table of `broadword::select_in_byte_table`.
+// the index has, and the table of `broadword::select_in_byte_table`; `select_within` also that there is such a position.
 ghost use mathlib.Core.Path.{_≡_};
 ghost use Prim.Native.Nat.{_+_, _*_, _/_, _%_, _^_, _<_};
 ghost use lib.Bits.{bitAnd};
 ghost use lib.ListN.{length, getD};
 ghost use Rattle.broadword.specs.Places.{select as selectBit};
+ghost use Rattle.broadword.specs.declared.Found.the-variants.{At};
 ghost use Rattle.bit_words.specs.Vector.{bitOver};
 ghost use Rattle.darray.specs.Select.{Indexed, signedOf, entryOf};
-use bit_words::find_from;
+use bit_words::find_within;
 use bit_words::words_for;
 use broadword::Found;
 use darray_positions::scan::BLOCK_LEN;
@@ -52,6 +53,38 @@ fn distance(index: &[u64], entries: usize, i: usize) -> usize
     ((word >> (16 * (i % 4))) & 0xffff) as usize
 }
 
+// The place of the one, or the zero, that k of its kind stand before, of which there are more.
+pub fn select_within(
+    words: &[u64],
+    len: usize,
+    over_one: bool,
+    index: &[u64],
+    positions: usize,
+    table: &[u8; 2048],
+    k: usize,
+) -> usize
+    requires { ⌜ (Indexed (now words) len «over_one» (now index) positions (now table) × (k < positions)) ⌝ }
+    ensures { λ r. ⌜ selectBit (bitOver «over_one» (now (words .entry))) len k ≡ At r ⌝ }
+{
+    let entries = (positions + 1023) / BLOCK_LEN;
+    let block = k / BLOCK_LEN;
+    match read_entry(index[block]) {
+        Entry::Overflow(first) => {
+            let lane_words = ((positions + 31) / SUBBLOCK_LEN + 3) / 4;
+            let at = entries + lane_words + first + k % BLOCK_LEN;
+            index[at] as usize
+        }
+        Entry::First(first) => {
+            let start = first + distance(index, entries, k / SUBBLOCK_LEN);
+            let rest = k % SUBBLOCK_LEN;
+            if rest == 0 {
+                return start;
+            }
+            find_within(words, words_for(len), over_one, table, start, rest)
+        }
+    }
+}
+
 // The place of the one, or the zero, that k of its kind stand before.
 pub fn select(
     words: &[u64],
@@ -68,21 +101,5 @@ pub fn select(
     if positions <= k {
         return Found::Nothing;
     }
-    let entries = (positions + 1023) / BLOCK_LEN;
-    let block = k / BLOCK_LEN;
-    match read_entry(index[block]) {
-        Entry::Overflow(first) => {
-            let lane_words = ((positions + 31) / SUBBLOCK_LEN + 3) / 4;
-            let at = entries + lane_words + first + k % BLOCK_LEN;
-            Found::At(index[at] as usize)
-        }
-        Entry::First(first) => {
-            let start = first + distance(index, entries, k / SUBBLOCK_LEN);
-            let rest = k % SUBBLOCK_LEN;
-            if rest == 0 {
-                return Found::At(start);
-            }
-            find_from(words, words_for(len), over_one, table, start, rest)
-        }
-    }
+    Found::At(select_within(words, len, over_one, index, positions, table, k))
 }

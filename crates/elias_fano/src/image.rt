@@ -9,10 +9,9 @@ ghost use Rattle.elias_fano.specs.Accept.{universe as universeOf, declar
 ghost use Rattle.elias_fano.specs.Ask.{Select, asked, query};
 ghost use Rattle.elias_fano.specs.Opening.{Counts, Limits, Complete, Headed, Heads, bitsIn, Indexes, Open, OneAt};
 use bit_words::words_for;
-use broadword::Found;
 use broadword::select_in_byte_table;
 use darray::inner::is_index;
-use darray::select1;
+use darray::select::select_within;
 use elias_fano_words::check::Checked;
 use elias_fano_words::check::check;
 use elias_fano_words::check::low_at;
@@ -249,17 +248,15 @@ pub fn one_at(image: &[u64], p: Parts, k: usize, table: &[u8; 2048]) -> usize
     let start = p.low_at;
     let ones_at = p.ones_at;
     let zeros_at = p.zeros_at;
-    match select1(
+    select_within(
         &image[6..start],
         p.high_len,
+        true,
         &image[ones_at..zeros_at],
         p.num_pushed as usize,
         table,
         k,
-    ) {
-        Found::At(place) => place,
-        Found::Nothing => 0,
-    }
+    )
 }
 
 // The value with the number k, which there is.
