@@ -3,7 +3,7 @@ use mathlib.Core.Path.{_≡_, refl, sym, ap, ap₂, _∙_, subst}
 use mathlib.Core.List.{List, []}
 use mathlib.Core.Bool.{Bool, true, false, _&&_, cond}
 use Prim.Native.Nat.{ℕ, suc, _+_, _-_, _*_, _/_, _%_, _^_, _≤_, _<_}
-use native.Mathlib.Nat.{le-of-eq}
+use native.Mathlib.Nat.{le-of-eq, lt-of-le-of-lt}
 use native.Mathlib.Omega.{arith}
 use borrow.Author.Tests.{lt-ltb, le-ltb}
 use lib.Dec.{eqb}
@@ -12,11 +12,10 @@ use lib.Seq.{take-all, length-take-le}
 use Rattle.broadword.specs.Bits.{bit, count}
 use Rattle.broadword.specs.Fields.{word}
 use Rattle.broadword.specs.Places.{select, SelectInByte}
-use Rattle.broadword.specs.declared.Found.{Found}
-use Rattle.broadword.specs.declared.Found.the-variants.{At, Nothing}
+use Rattle.broadword.specs.declared.Found.the-variants.{At}
 use Rattle.broadword.proofs.Find.{selected}
 use Rattle.bit_words.specs.Vector.{bitAt, bitOver}
-use Rattle.bit_words.proofs.Runs.{bitOver-le, select-few}
+use Rattle.bit_words.proofs.Runs.{bitOver-le}
 use Rattle.darray.specs.Select.{Indexed}
 use Rattle.darray_positions.specs.Index.{indexWords}
 use Rattle.darray_positions.specs.Positions.{positions}
@@ -138,12 +137,8 @@ module _ (i : List ℕ) (ok : accepted i ≡ true) where
   zeros-count : Law (λ p. p .«high_len» - p .«num_pushed» ≡ count (bitOver false (highPart i p)) (p .«high_len»))
   zeros-count p e = standing.zeros-count i p e (found i ok .head) (images.is-fit i ok .small) (found i ok .bits)
 
-  pub zero-some : (p : Parts) → p ≡ partsOf i → (h : ℕ) → h ≤ p .universe / 2 ^ p .«low_len» → (r : Found) → r ≡ select (bitOver false (highPart i p)) (p .«high_len») h → r ≡ Nothing → ⊥
-  zero-some p e h g r er en =
-      let a = select-few (bitOver false (highPart i p)) (bitOver-le false (highPart i p)) (p .«high_len») 0 h (sym er ∙ en) in
-      let b = zeros-count p e in
-      let c = many-zeros p e in
-      omega arith
+  pub zero-in : (p : Parts) → p ≡ partsOf i → (h : ℕ) → h ≤ p .universe / 2 ^ p .«low_len» → h < p .«high_len» - p .«num_pushed»
+  zero-in p e h g = lt-of-le-of-lt g (many-zeros p e)
 
   pub indexed-zeros : (p : Parts) → p ≡ partsOf i → p .rank ≡ true → (t : List ℕ) → SelectInByte t → Indexed (highPart i p) (p .«high_len») false (take (length i - p .«zeros_at») (drop (p .«zeros_at») i)) (p .«high_len» - p .«num_pushed») t
   indexed-zeros p e c t rule =
@@ -163,11 +158,11 @@ pub ones-before : (i : List ℕ) (p : Parts) (k x : ℕ) → OneAt i p k x → (
 unfolding bitOver
 ones-before i p k x o = let s = selected (bitOver true (highPart i p)) (p .«high_len») k x (o .place) in (s .before, s .within)
 
--- ---- a bit is set
+-- ---- a bit
 
-pub is-one : (ws : List ℕ) (x : ℕ) → eqb (getD ws (x / 64) 0 / 2 ^ (x % 64) % 2) 1 ≡ eqb (bitAt ws x) 1
+pub high-bit : (ws : List ℕ) (x : ℕ) → getD ws (x / 64) 0 / 2 ^ (x % 64) % 2 ≡ bitAt ws x
 unfolding bitAt bit
-is-one ws x = refl
+high-bit ws x = refl
 
 pub not-crowded : (ws : List ℕ) (x : ℕ) → x ≤ 16 → false ≡ crowded ws x
 not-crowded ws x h = sym (ap (λ (t : Bool). t && eqb (word 1 (λ j. bitAt ws (x - 17 + j)) 64 % 2 ^ 17) (2 ^ 17 - 1)) (le-ltb 16 x h))

@@ -1,34 +1,59 @@
 -- Rank inside a bucket, step by step: walking back from its end, and halving between its ends. Assumes nothing.
-use mathlib.Core.Path.{_≡_, refl, sym, _∙_}
+use mathlib.Core.Path.{_≡_, refl, sym, ap, _∙_, subst⁻¹}
 use mathlib.Core.List.{List}
 use mathlib.Core.Bool.{Bool, true, false, not}
-use Prim.Native.Nat.{ℕ, suc, _+_, _-_, _*_, _/_, _%_, _^_, _≤_, _<_}
-use native.Mathlib.Nat.{le-refl, le-of-lt}
+use Prim.Native.Nat.{ℕ, zero, suc, min, _+_, _-_, _*_, _/_, _%_, _^_, _≤_, _<_}
+use native.Mathlib.Nat.{le-refl, le-of-lt, lt-of-not-le}
+use native.Mathlib.Decide.{decLt}
 use native.Mathlib.Omega.{arith}
-use borrow.Author.Tests.{eqb-true, eq-eqb}
-use lib.Dec.{eqb}
+use borrow.Author.Tests.{leb-true, leb-false}
+use lib.Bits.{bitAnd, and-step, and-zero-l}
+use lib.Dec.{leb}
 use lib.ListN.{length, getD}
 use lib.Pow.{split}
-use Rattle.broadword.proofs.Truth.{true-false}
+use Rattle.broadword.specs.Fields.{flag}
 use Rattle.bit_words.specs.Vector.{bitAt}
+use Rattle.bit_words.proofs.Runs.{bitAt-le}
 use Rattle.elias_fano.specs.declared.image.Parts.{Parts}
 use Rattle.elias_fano.specs.Accept.{universe, times}
 use Rattle.elias_fano.specs.Ask.{below}
 use Rattle.elias_fano.proofs.Selecting as selecting
-use Rattle.elias_fano_queries.specs.Demands.{IsOpen}
-use Rattle.elias_fano.specs.Opening.{highPart}
+use Rattle.elias_fano_queries.specs.Demands.{IsOpen, Stays}
+use Rattle.elias_fano.specs.Opening.{Open, highPart}
 use Rattle.elias_fano_queries.proofs.Below as below-law
 use Rattle.elias_fano_queries.proofs.Opened as opened
 use Rattle.elias_fano_queries.proofs.Upper as upper
 
 -- a test that was negated
-is-false : (b : Bool) → not b ≡ true → b ≡ false
-is-false true e = sym e
-is-false false e = refl
-
 pub is-true : (b : Bool) → not b ≡ false → b ≡ true
 is-true true e = refl
 is-true false e = sym e
+
+pub is-open : (i : List ℕ) (p : Parts) (t : List ℕ) → Open i p t → IsOpen i p
+is-open i p t o = record { ok = o .ok; parts = o .parts }
+
+-- two bits
+and-bits : (a b : ℕ) → a ≤ 1 → b ≤ 1 → bitAnd a b ≡ min a b
+and-bits a b h g =
+    let z : a / 2 ≡ 0 = omega arith in
+    and-step a b ∙ ap (λ (q : ℕ). bitAnd q (b / 2) * 2 + min (a % 2) (b % 2)) z ∙ ap (λ (q : ℕ). q * 2 + min (a % 2) (b % 2)) (and-zero-l (b / 2))
+    ∙ (let e : 0 * 2 + min (a % 2) (b % 2) ≡ min a b = omega arith in e)
+
+pub not-zero : (b : ℕ) → b ≤ 1 → (b ≡ 0 → ⊥) → b ≡ 1
+not-zero zero h g = absurd (g refl)
+not-zero (suc b) h g = omega arith
+
+flag-le : (t : Bool) → flag t ≤ 1
+flag-le true = le-refl 1
+flag-le false = omega arith
+
+flag-one : (t : Bool) → flag t ≡ 1 → t ≡ true
+flag-one true e = refl
+flag-one false e = absurd (omega arith)
+
+flag-zero : (t : Bool) → flag t ≡ 0 → t ≡ false
+flag-zero true e = absurd (omega arith)
+flag-zero false e = refl
 
 module _ (i : List ℕ) (p : Parts) (o : IsOpen i p) (v : ℕ) where
   abbrev T : List ℕ
@@ -81,18 +106,56 @@ module _ (i : List ℕ) (p : Parts) (o : IsOpen i p) (v : ℕ) where
           let a = below-law.past-time u v T (opened.rises i (o .ok)) (j - 1) (let c = end-le in let d = pushed-is in omega arith) g in
           omega arith
 
-      pub stop-zero : (b : Bool) → b ≡ eqb (bitAt (highPart i p) (h + (j - 1))) 1 → not b ≡ true → j ≡ below v T
-      stop-zero b eb e =
-          stops (opened.less-high i (o .ok) p (o .parts) v (j - 1) lo′ hi′ (λ g. true-false (sym (eq-eqb _ 1 g) ∙ sym eb ∙ is-false b e)))
+      pub stop-zero : bitAt (highPart i p) (h + (j - 1)) ≡ 0 → j ≡ below v T
+      stop-zero z = stops (opened.less-high i (o .ok) p (o .parts) v (j - 1) lo′ hi′ (λ g. omega arith))
 
       module _ (x y : ℕ) (ex : x ≡ getD T (j - 1) 0 % 2 ^ l) (ey : y ≡ v % 2 ^ l) where
         pub stop-low : x < y → j ≡ below v T
         stop-low g = stops (upper.low-less l (getD T (j - 1) 0) v (opened.upto-high i (o .ok) p (o .parts) v (j - 1) lo′ hi′) (omega arith))
 
-        pub go-back : v < p .universe → (b : Bool) → b ≡ eqb (bitAt (highPart i p) (h + (j - 1))) 1 → not b ≡ false → y ≤ x → below v T ≤ j - 1
-        go-back q b eb e g =
+        pub go-back : v < p .universe → bitAt (highPart i p) (h + (j - 1)) ≡ 1 → y ≤ x → below v T ≤ j - 1
+        go-back q e g =
             below-law.upto-time u v T (opened.rises i (o .ok)) (j - 1)
-            (upper.low-not-less l (getD T (j - 1) 0) v (opened.same-high i (o .ok) p (o .parts) v (j - 1) lo′ hi′ (place-lt q (j - 1) (omega arith)) (eqb-true _ 1 (sym eb ∙ is-true b e))) (omega arith))
+            (upper.low-not-less l (getD T (j - 1) 0) v (opened.same-high i (o .ok) p (o .parts) v (j - 1) lo′ hi′ (place-lt q (j - 1) (omega arith)) e) (omega arith))
+
+      -- both tests at once
+      pub stays : v < p .universe → (b c y : ℕ) → b ≡ bitAt (highPart i p) (h + (j - 1)) → c ≡ flag (leb y (getD T (j - 1) 0 % 2 ^ l)) → y ≡ v % 2 ^ l → Stays v T j (bitAnd b c)
+      stays q b c y eb ec ey =
+          let x : ℕ = getD T (j - 1) 0 % 2 ^ l in
+          let hb : b ≤ 1 = subst⁻¹ (λ (n : ℕ). n ≤ 1) eb (bitAt-le (highPart i p) (h + (j - 1))) in
+          let hc : c ≤ 1 = subst⁻¹ (λ (n : ℕ). n ≤ 1) ec (flag-le (leb y x)) in
+          let m = and-bits b c hb hc in
+          record {
+            bit = omega arith;
+            back = λ e. go-back x y refl ey q (omega arith) (leb-true y x (flag-one (leb y x) (omega arith)));
+            stop = λ e. stop (decLt b 1) e;
+          }
+        where
+          stop : Dec (b < 1) → bitAnd b c ≡ 0 → j ≡ below v T
+          stop (yes g) e = stop-zero (omega arith)
+          stop (no g) e =
+              let x : ℕ = getD T (j - 1) 0 % 2 ^ l in
+              let hb : b ≤ 1 = subst⁻¹ (λ (n : ℕ). n ≤ 1) eb (bitAt-le (highPart i p) (h + (j - 1))) in
+              let hc : c ≤ 1 = subst⁻¹ (λ (n : ℕ). n ≤ 1) ec (flag-le (leb y x)) in
+              let m = and-bits b c hb hc in
+              let d = lt-of-not-le g in
+              stop-low x y refl ey (leb-false y x (flag-zero (leb y x) (omega arith)))
+
+    -- the last is not below, or is, and the bit before it is not set
+    pub at-most-one : (r b : ℕ) → 2 ≤ e → Stays v T e r → b ≡ bitAt (highPart i p) (h + (e - 2)) → bitAnd r b ≡ 0 → e - r ≡ below v T
+    at-most-one r b two s eb z = go (decLt r 1)
+      where
+        go : Dec (r < 1) → e - r ≡ below v T
+        go (yes g) = let a = s .stop (omega arith) in omega arith
+        go (no g) =
+            let d = lt-of-not-le g in
+            let hr = s .bit in
+            let hb : b ≤ 1 = subst⁻¹ (λ (n : ℕ). n ≤ 1) eb (bitAt-le (highPart i p) (h + (e - 2))) in
+            let m = and-bits r b hr hb in
+            let w = s .back (omega arith) in
+            let q : h + (e - 2) ≡ h + (e - 1 - 1) = omega arith in
+            let o = stop-zero (e - 1) (omega arith) w (omega arith) (ap (bitAt (highPart i p)) (sym q) ∙ sym eb ∙ (let n : b ≡ 0 = omega arith in n)) in
+            omega arith
 
     -- ---- halving: the value in the middle
 

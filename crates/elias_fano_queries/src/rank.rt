@@ -5,19 +5,19 @@
 // from the last, or by halving if there are more than 16.
 ghost use mathlib.Core.Path.{_≡_};
 ghost use Prim.Native.Nat.{_+_, _*_, _/_, _%_, _^_, _≤_, _<_};
-ghost use lib.Dec.{eqb};
+ghost use lib.Dec.{leb};
 ghost use lib.ListN.{getD};
+ghost use Rattle.broadword.specs.Fields.{flag};
 ghost use Rattle.bit_words.specs.Vector.{bitAt};
 ghost use Rattle.elias_fano.specs.Accept.{times, ofNumber};
 ghost use Rattle.elias_fano.specs.Ask.{Rank, below, asked, query};
 ghost use Rattle.elias_fano.specs.Opening.{Open, highPart};
-ghost use Rattle.elias_fano_queries.specs.Demands.{IsOpen, Rankable, crowded};
+ghost use Rattle.elias_fano_queries.specs.Demands.{IsOpen, Rankable, crowded, Stays};
 use bit_words::WORD_LEN;
 use bit_words::low_bits;
 use bit_words::window;
-use broadword::Found;
 use broadword::select_in_byte_table;
-use darray::select0;
+use darray::select::select_within;
 use elias_fano::image::Number;
 use elias_fano::image::Opened;
 use elias_fano::image::Parts;
@@ -35,28 +35,28 @@ fn count_upto(image: &[u64], p: Parts, h: usize, table: &[u8; 2048]) -> usize
 {
     let start = p.low_at;
     let zeros_at = p.zeros_at;
-    match select0(
+    let zeros = p.high_len - p.num_pushed as usize;
+    let place = select_within(
         &image[6..start],
         p.high_len,
+        false,
         &image[zeros_at..],
-        p.high_len - p.num_pushed as usize,
+        zeros,
         table,
         h,
-    ) {
-        Found::At(place) => place - h,
-        Found::Nothing => 0,
-    }
+    );
+    place - h
 }
 
-// Whether the high bit at a place is set.
-fn is_one(image: &[u64], p: Parts, place: usize) -> bool
+// The high bit at a place.
+fn high_bit(image: &[u64], p: Parts, place: usize) -> u64
     requires { ⌜ (IsOpen (now image) p × (place < p .«high_len»)) ⌝ }
-    ensures { λ r. ⌜ r ≡ eqb (bitAt (highPart (now (image .entry)) p) place) 1 ⌝ }
+    ensures { λ r. ⌜ r ≡ bitAt (highPart (now (image .entry)) p) place ⌝ }
 {
     let start = p.low_at;
     let high = &image[6..start];
     let at = place / WORD_LEN;
-    (high[at] >> (place % WORD_LEN)) % 2 == 1
+    (high[at] >> (place % WORD_LEN)) % 2
 }
 
 // The low bits of the value with the number k.
@@ -78,7 +78,7 @@ fn walk_back(image: &[u64], p: Parts, val: u64, end: usize) -> usize
     let low = low_bits(val, p.low_len);
     let mut i = end;
     while 0 < i {
-        if !is_one(image, p, h + (i - 1)) {
+        if high_bit(image, p, h + (i - 1)) == 0 {
             break;
         }
         if low_of(image, p, i - 1) < low {
@@ -136,18 +136,53 @@ fn is_crowded(image: &[u64], p: Parts, place: usize) -> bool
     low_bits(before, LINEAR_WALK_THRESHOLD + 1) == 0x1_ffff
 }
 
-// How many values are below val, which is below the universe.
+// The same, by halving if the bucket may be long.
+fn rank_from(image: &[u64], p: Parts, val: u64, end: usize, table: &[u8; 2048]) -> usize
+    requires { ⌜ (Rankable (now image) p (now table) × (val < p .universe) × (end ≡ below ((val / 2 ^ p .«low_len» + 1) * 2 ^ p .«low_len») (times (now image)))) ⌝ }
+    ensures { λ r. ⌜ r ≡ below val (times (now (image .entry))) ⌝ }
+{
+    let h = (val >> p.low_len) as usize;
+    if is_crowded(image, p, h + end) {
+        let first = count_before(image, p, h, table);
+        return halve_bucket(image, p, val, first, end);
+    }
+    walk_back(image, p, val, end)
+}
+
+// 1 if the low bits of the value with the number k are not below, else 0.
+fn from_low(image: &[u64], p: Parts, k: usize, low: u64) -> u64
+    requires { ⌜ (IsOpen (now image) p × (k < p .«num_pushed»)) ⌝ }
+    ensures { λ r. ⌜ r ≡ flag (leb low (getD (times (now (image .entry))) k 0 % 2 ^ p .«low_len»)) ⌝ }
+{
+    if low <= low_of(image, p, k) { 1 } else { 0 }
+}
+
+// 1 if the last value before the end of val's bucket is in it and not below val, else 0: no branch, whatever the bucket holds.
+fn last_from(image: &[u64], p: Parts, val: u64, end: usize) -> u64
+    requires { ⌜ (IsOpen (now image) p × (val < p .universe) × (end ≡ below ((val / 2 ^ p .«low_len» + 1) * 2 ^ p .«low_len») (times (now image))) × (0 < end)) ⌝ }
+    ensures { λ r. ⌜ Stays val (times (now (image .entry))) end r ⌝ }
+{
+    let h = (val >> p.low_len) as usize;
+    let low = low_bits(val, p.low_len);
+    high_bit(image, p, h + (end - 1)) & from_low(image, p, end - 1, low)
+}
+
+// How many values are below val, which is below the universe. Few buckets hold two values that are not: only where the bit before the last one is
+// set as well are they looked at one by one.
 pub fn rank_within(image: &[u64], p: Parts, val: u64, table: &[u8; 2048]) -> usize
     requires { ⌜ (Rankable (now image) p (now table) × (val < p .universe)) ⌝ }
     ensures { λ r. ⌜ r ≡ below val (times (now (image .entry))) ⌝ }
 {
     let h = (val >> p.low_len) as usize;
     let end = count_upto(image, p, h, table);
-    if is_crowded(image, p, h + end) {
-        let first = count_before(image, p, h, table);
-        return halve_bucket(image, p, val, first, end);
+    if end < 2 {
+        return rank_from(image, p, val, end, table);
     }
-    walk_back(image, p, val, end)
+    let last = last_from(image, p, val, end);
+    if last & high_bit(image, p, h + (end - 2)) == 0 {
+        return end - last as usize;
+    }
+    rank_from(image, p, val, end, table)
 }
 
 // How many values are below val, of an opened image: constant time but for the words between every 32nd zero and a bucket's halving.

@@ -1,11 +1,13 @@
 -- `elias_fano_queries::rank::rank_within` meets its contract.
 -- Assumes nothing.
-use native.Mathlib.Nat.{le-refl, le-of-lt}
+use Prim.Native.Nat.{_-_}
+use native.Mathlib.Nat.{le-of-lt}
 use native.Mathlib.Omega.{arith}
 use lib.Pow.{shr-mono}
 use Rattle.elias_fano.proofs.Selecting as selecting
 use Rattle.elias_fano_queries.proofs.Opened as opened
 use Rattle.elias_fano_queries.proofs.Ranking as ranking
+use Rattle.elias_fano_queries.proofs.Ranking.{is-open}
 use Rattle.elias_fano_queries.proofs.rank.rank_within.Statement.{statement}
 use Rattle.elias_fano_queries.proofs.rank.rank_within.Tie as tie
 
@@ -15,26 +17,32 @@ shr-h c = let s = c .before in selecting.low-small (s .args .image .now) (s .pre
 count-upto-requires : tie.Need-count-upto-requires
 count-upto-requires c κs = let s = c .before in (s .pre .0, shr-mono (s .args .p .«low_len») (le-of-lt (s .pre .1)))
 
-add-is-crowded : tie.Need-add-is-crowded
-add-is-crowded c = let s = c .before .before in let a = ranking.place-lt (s .args .image .now) (s .args .p) (record { ok = s .pre .0 .opened .ok; parts = s .pre .0 .opened .parts }) (s .args .val) _ (c .count-upto .ensures) (s .pre .1) _ (le-refl _) in omega (arith, opened.high-small (s .args .image .now) (s .pre .0 .opened .ok) (s .args .p) (s .pre .0 .opened .parts))
-
-is-crowded-requires : tie.Need-is-crowded-requires
-is-crowded-requires c κs = let s = c .before .before in ((record { ok = s .pre .0 .opened .ok; parts = s .pre .0 .opened .parts }), ranking.place-lt (s .args .image .now) (s .args .p) (record { ok = s .pre .0 .opened .ok; parts = s .pre .0 .opened .parts }) (s .args .val) _ (c .count-upto .ensures) (s .pre .1) _ (le-refl _))
-
-count-before-requires : tie.Need-count-before-requires
-count-before-requires c κs = let s = c .before .before .before .before in (s .pre .0, shr-mono (s .args .p .«low_len») (le-of-lt (s .pre .1)))
-
-halve-bucket-requires : tie.Need-halve-bucket-requires
-halve-bucket-requires c κs = let s = c .before .before .before .before .before in ((record { ok = s .pre .0 .opened .ok; parts = s .pre .0 .opened .parts }), c .count-before .ensures, c .before .before .before .count-upto .ensures)
+rank-from-requires : tie.Need-rank-from-requires
+rank-from-requires c κs = let s = c .before .before .before in (s .pre .0, s .pre .1, c .before .count-upto .ensures)
 
 returns : tie.Need-returns
-returns c = c .halve-bucket .ensures
+returns c = c .rank-from .ensures
 
-walk-back-requires : tie.Need-walk-back-requires
-walk-back-requires c κs = let s = c .before .before .before .before in ((record { ok = s .pre .0 .opened .ok; parts = s .pre .0 .opened .parts }), s .pre .1, c .before .before .count-upto .ensures)
+last-from-requires : tie.Need-last-from-requires
+last-from-requires c κs = let s = c .before .before .before in ((is-open _ _ _ (s .pre .0 .opened)), s .pre .1, c .before .count-upto .ensures, omega (arith, c .if1 .left))
+
+add-high-bit : tie.Need-add-high-bit
+add-high-bit c = let s = c .before .before .before .before in let a = ranking.place-lt (s .args .image .now) (s .args .p) (is-open _ _ _ (s .pre .0 .opened)) (s .args .val) _ (c .before .before .count-upto .ensures) (s .pre .1) (c .before .before .count-upto .result - 2) (omega arith) in omega (arith, opened.high-small (s .args .image .now) (s .pre .0 .opened .ok) (s .args .p) (s .pre .0 .opened .parts))
+
+high-bit-requires : tie.Need-high-bit-requires
+high-bit-requires c κs = let s = c .before .before .before .before in ((is-open _ _ _ (s .pre .0 .opened)), ranking.place-lt (s .args .image .now) (s .args .p) (is-open _ _ _ (s .pre .0 .opened)) (s .args .val) _ (c .before .before .count-upto .ensures) (s .pre .1) (c .before .before .count-upto .result - 2) (omega arith))
+
+sub-result : tie.Need-sub-result
+sub-result c = let b = c .before .before .last-from .ensures .bit in omega (arith, c .before .before .before .if1 .left)
 
 returns-2 : tie.Need-returns-2
-returns-2 c = c .walk-back .ensures
+returns-2 c = let s = c .before .before .before .before .before .before in ranking.at-most-one (s .args .image .now) (s .args .p) (is-open _ _ _ (s .pre .0 .opened)) (s .args .val) _ (c .before .before .before .before .count-upto .ensures) _ _ (c .before .before .before .if1 .left) (c .before .before .last-from .ensures) (c .before .high-bit .ensures) (c .if2 .taken)
+
+rank-from-requires-2 : tie.Need-rank-from-requires-2
+rank-from-requires-2 c κs = let s = c .before .before .before .before .before .before in (s .pre .0, s .pre .1, c .before .before .before .before .count-upto .ensures)
+
+returns-3 : tie.Need-returns-3
+returns-3 c = c .rank-from2 .ensures
 
 pub rank-within-spec : {M : Type 1} → statement M
-rank-within-spec = tie.close (tie.spec shr-h count-upto-requires add-is-crowded is-crowded-requires count-before-requires halve-bucket-requires returns walk-back-requires returns-2)
+rank-within-spec = tie.close (tie.spec shr-h count-upto-requires rank-from-requires returns last-from-requires add-high-bit high-bit-requires sub-result returns-2 rank-from-requires-2 returns-3)

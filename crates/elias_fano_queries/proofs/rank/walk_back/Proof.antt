@@ -1,9 +1,11 @@
 -- `elias_fano_queries::rank::walk_back` meets its contract.
 -- Assumes nothing.
 use borrow.Author.Needs.{needs}
+use mathlib.Core.Path.{sym, _∙_}
 use Prim.Native.Nat.{_+_, _/_, _^_, _≤_, _<_}
 use native.Mathlib.Nat.{le-refl}
 use native.Mathlib.Omega.{arith}
+use Rattle.bit_words.proofs.Runs.{bitAt-le}
 use Rattle.elias_fano.specs.Accept.{times}
 use Rattle.elias_fano.specs.Ask.{below}
 use Rattle.elias_fano.proofs.Selecting as selecting
@@ -27,8 +29,8 @@ low-bits-requires c κs = let s = c .before in let a = selecting.low-small (s .a
 loop-holds : tie.Need-loop-holds Inv-loop μ-loop
 loop-holds c = let s = c .before .before in (ranking.begins (s .args .image .now) (s .args .p) (s .pre .0) (s .args .val) (s .args .end) (s .pre .2), le-refl (s .args .end))
 
-sub-is-one : tie.Need-sub-is-one Inv-loop μ-loop
-sub-is-one c = search needs
+sub-high-bit : tie.Need-sub-high-bit Inv-loop μ-loop
+sub-high-bit c = search needs
 
 -- the place that is looked at is one of the high bits
 place : (c : tie.In-loop Inv-loop μ-loop) → c .before .before .before .before .args .val / 2 ^ c .before .before .before .before .args .p .«low_len» + c .before .before .before .before .args .end < c .before .before .before .before .args .p .«high_len»
@@ -36,14 +38,14 @@ place c =
     let s = c .before .before .before .before in
     ranking.place-lt (s .args .image .now) (s .args .p) (s .pre .0) (s .args .val) (s .args .end) (s .pre .2) (s .pre .1) (s .args .end) (le-refl (s .args .end))
 
-add-is-one : tie.Need-add-is-one Inv-loop μ-loop
-add-is-one c =
+add-high-bit : tie.Need-add-high-bit Inv-loop μ-loop
+add-high-bit c =
     let s = c .before .before .before .before in
     let a = place c in
     omega (arith, c .before .loop .inv .1, opened.high-small (s .args .image .now) (s .pre .0 .ok) (s .args .p) (s .pre .0 .parts))
 
-is-one-requires : tie.Need-is-one-requires Inv-loop μ-loop
-is-one-requires c κs = let s = c .before .before .before .before in let a = place c in (s .pre .0, omega (arith, c .before .loop .inv .1))
+high-bit-requires : tie.Need-high-bit-requires Inv-loop μ-loop
+high-bit-requires c κs = let s = c .before .before .before .before in let a = place c in (s .pre .0, omega (arith, c .before .loop .inv .1))
 
 sub-low-of : tie.Need-sub-low-of Inv-loop μ-loop
 sub-low-of c = search needs
@@ -58,16 +60,16 @@ loop-less : tie.Need-loop-less Inv-loop μ-loop
 loop-less c = omega (arith, c .before .before .before .before .loop-test .taken)
 
 loop-again : tie.Need-loop-again Inv-loop μ-loop
-loop-again c = let s = c .before .before .before .before .before .before .before .before in (ranking.go-back (s .args .image .now) (s .args .p) (s .pre .0) (s .args .val) (s .args .end) (s .pre .2) (c .before .before .before .before .before .loop .i) (c .before .before .before .before .loop-test .taken) (c .before .before .before .before .before .loop .inv .0) (c .before .before .before .before .before .loop .inv .1) _ _ (c .before .low-of .ensures) (c .before .before .before .before .before .before .low-bits .ensures) (s .pre .1) _ (c .before .before .before .is-one .ensures) (c .before .before .if1 .left) (c .if2 .left), omega (arith, c .before .before .before .before .before .loop .inv .1))
+loop-again c = let s = c .before .before .before .before .before .before .before .before in (ranking.go-back (s .args .image .now) (s .args .p) (s .pre .0) (s .args .val) (s .args .end) (s .pre .2) (c .before .before .before .before .before .loop .i) (c .before .before .before .before .loop-test .taken) (c .before .before .before .before .before .loop .inv .0) (c .before .before .before .before .before .loop .inv .1) _ _ (c .before .low-of .ensures) (c .before .before .before .before .before .before .low-bits .ensures) (s .pre .1) (ranking.not-zero _ (bitAt-le _ _) (λ z. c .before .before .if1 .left (c .before .before .before .high-bit .ensures ∙ z))) (c .if2 .left), omega (arith, c .before .before .before .before .before .loop .inv .1))
 
 returns : tie.Need-returns Inv-loop μ-loop
 returns c = omega (arith, c .loop-test .left, c .before .loop .inv .0)
 
 returns-2 : tie.Need-returns-2 Inv-loop μ-loop
-returns-2 c = let s = c .before .before .before .before .before .before in ranking.stop-zero (s .args .image .now) (s .args .p) (s .pre .0) (s .args .val) (s .args .end) (s .pre .2) (c .before .before .before .loop .i) (c .before .before .loop-test .taken) (c .before .before .before .loop .inv .0) (c .before .before .before .loop .inv .1) _ (c .before .is-one .ensures) (c .if1 .taken)
+returns-2 c = let s = c .before .before .before .before .before .before in ranking.stop-zero (s .args .image .now) (s .args .p) (s .pre .0) (s .args .val) (s .args .end) (s .pre .2) (c .before .before .before .loop .i) (c .before .before .loop-test .taken) (c .before .before .before .loop .inv .0) (c .before .before .before .loop .inv .1) (sym (c .before .high-bit .ensures) ∙ c .if1 .taken)
 
 returns-3 : tie.Need-returns-3 Inv-loop μ-loop
 returns-3 c = let s = c .before .before .before .before .before .before .before .before in ranking.stop-low (s .args .image .now) (s .args .p) (s .pre .0) (s .args .val) (s .args .end) (s .pre .2) (c .before .before .before .before .before .loop .i) (c .before .before .before .before .loop-test .taken) (c .before .before .before .before .before .loop .inv .0) (c .before .before .before .before .before .loop .inv .1) _ _ (c .before .low-of .ensures) (c .before .before .before .before .before .before .low-bits .ensures) (c .if2 .taken)
 
 pub walk-back-spec : {M : Type 1} → statement M
-walk-back-spec = tie.close (tie.spec Inv-loop μ-loop shr-h low-bits-requires loop-holds sub-is-one add-is-one is-one-requires sub-low-of low-of-requires sub-i loop-less loop-again returns returns-2 returns-3)
+walk-back-spec = tie.close (tie.spec Inv-loop μ-loop shr-h low-bits-requires loop-holds sub-high-bit add-high-bit high-bit-requires sub-low-of low-of-requires sub-i loop-less loop-again returns returns-2 returns-3)

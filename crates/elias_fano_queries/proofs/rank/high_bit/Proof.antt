@@ -1,12 +1,12 @@
--- `elias_fano_queries::rank::is_one` meets its contract.
+-- `elias_fano_queries::rank::high_bit` meets its contract.
 -- Assumes nothing.
 use borrow.Author.Needs.{needs}
 use native.Mathlib.Omega.{arith}
 use Rattle.elias_fano.proofs.Accepting.{found}
 use Rattle.elias_fano.proofs.Standing as standing
 use Rattle.elias_fano_queries.proofs.Opened as opened
-use Rattle.elias_fano_queries.proofs.rank.is_one.Statement.{statement}
-use Rattle.elias_fano_queries.proofs.rank.is_one.Tie as tie
+use Rattle.elias_fano_queries.proofs.rank.high_bit.Statement.{statement}
+use Rattle.elias_fano_queries.proofs.rank.high_bit.Tie as tie
 
 sub-high : tie.Need-sub-high
 sub-high c = let s = c in standing.six-low (s .args .image .now) (s .args .p) (s .pre .0 .parts) (found (s .args .image .now) (s .pre .0 .ok) .head)
@@ -27,7 +27,7 @@ shr-result : tie.Need-shr-result
 shr-result c = search needs
 
 returns : tie.Need-returns
-returns c = let s = c .before .before in opened.is-one _ (s .args .place)
+returns c = let s = c .before .before in opened.high-bit _ (s .args .place)
 
-pub is-one-spec : {M : Type 1} → statement M
-is-one-spec = tie.close (tie.spec sub-high part-high-start part-high-end mul-result shared-slice-read-result shr-result returns)
+pub high-bit-spec : {M : Type 1} → statement M
+high-bit-spec = tie.close (tie.spec sub-high part-high-start part-high-end mul-result shared-slice-read-result shr-result returns)
