@@ -3,16 +3,15 @@
 use mathlib.Core.Path.{_≡_, refl, sym, ap, _∙_}
 use mathlib.Core.List.{List}
 use mathlib.Core.Bool.{true}
-use Prim.Native.Nat.{ℕ, zero, suc, _+_, _-_, _*_, _/_, _≤_, _<_}
+use Prim.Native.Nat.{ℕ, suc, _+_, _-_, _*_, _≤_, _<_}
 use native.Mathlib.Nat.{lt-of-not-le, lt-of-lt-of-le, le-dest}
 use native.Mathlib.Omega.{arith}
 use lib.ListN.{length}
 use Rattle.broadword.specs.Bits.{count}
 use Rattle.broadword.specs.Places.{last, select, SelectInByte}
-use Rattle.broadword.specs.declared.Found.{Found}
-use Rattle.broadword.specs.declared.Found.the-variants.{At, Nothing}
+use Rattle.broadword.specs.declared.Found.the-variants.{At}
 use Rattle.broadword.proofs.Count.{count-mono, count-zero, count-add}
-use Rattle.broadword.proofs.Find.{last-is, last-nothing, select-at, selected}
+use Rattle.broadword.proofs.Find.{last-is, select-at, selected}
 use Rattle.bit_words.specs.Inner.{Findable}
 use Rattle.bit_words.specs.Vector.{bitAt, bitOver, wordsFor}
 use Rattle.bit_words.proofs.Last.{not-one}
@@ -41,15 +40,7 @@ module _ (f : ℕ → ℕ) (bits : (j : ℕ) → f j ≤ 1) (x k : ℕ) (e : cou
       let o = r .one in
       omega arith
 
-  no-last : last f x ≡ Nothing → k ≡ 0
-  no-last en = sym e ∙ count-zero f x (λ j g. not-one (f j) (bits j) (last-nothing f x en j g))
-
 -- ---- of an opened image
-
-some-place : (f : ℕ → ℕ) (x k : ℕ) → count f x ≡ k → 0 < k → 1 ≤ x
-unfolding count
-some-place f zero k e h = absurd (omega arith)
-some-place f (suc x) k e h = omega arith
 
 module _ (i : List ℕ) (p : Parts) (k x : ℕ) (b : Behind i p k x) where
   abbrev W : List ℕ
@@ -65,23 +56,18 @@ module _ (i : List ℕ) (p : Parts) (k x : ℕ) (b : Behind i p k x) where
       ap (λ (f : ℕ → ℕ). count f (p .«high_len»)) (sym over-one)
       ∙ sym (standing.ones-count i p (o .parts) (found i (o .ok) .head) (images.is-fit i (o .ok) .small) (found i (o .ok) .bits))
 
-  pub after-first : 0 < k → 1 ≤ x
-  after-first h = some-place (bitAt W) x k (b .before) h
-
-  pub before-room : 0 < k → (x - 1) / 64 < length W
+  pub before-room : 0 < k → (x ≤ length W * 64) × (0 < count (bitAt W) x)
   before-room h =
       let o = b .opened in
       let a = opened.part-length i (o .ok) p (o .parts) in
       let c = opened.part-room i (o .ok) p (o .parts) in
-      let d = after-first h in
+      let d = b .before in
       let e = b .upto in
-      omega arith
+      (omega arith, omega arith)
 
-  pub before-is : 0 < k → (r : Found) → r ≡ last (bitAt W) (x - 1 + 1) → (y : ℕ) → r ≡ At y → OneAt i p (k - 1) y
-  before-is h r er y e =
+  pub before-is : 0 < k → (y : ℕ) → last (bitAt W) x ≡ At y → OneAt i p (k - 1) y
+  before-is h y ey =
       let o = b .opened in
-      let d : x - 1 + 1 ≡ x = let a = after-first h in omega arith in
-      let ey : last (bitAt W) x ≡ At y = ap (last (bitAt W)) (sym d) ∙ sym er ∙ e in
       let w = last-is (bitAt W) x y ey in
       let n = last-number (bitAt W) (bitAt-le W) x k (b .before) y ey in
       let m = count-mono (bitAt W) x (p .«high_len») (b .upto) in
@@ -93,12 +79,6 @@ module _ (i : List ℕ) (p : Parts) (k x : ℕ) (b : Behind i p k x) where
         below = omega arith;
         place = ap (λ (f : ℕ → ℕ). select f (p .«high_len») (k - 1)) over-one ∙ select-at (bitAt W) (p .«high_len») (k - 1) y (lt-of-lt-of-le (w .within) (b .upto)) (w .one) (omega arith);
       }
-
-  pub before-some : 0 < k → (r : Found) → r ≡ last (bitAt W) (x - 1 + 1) → r ≡ Nothing → ⊥
-  before-some h r er e =
-      let d : x - 1 + 1 ≡ x = let a = after-first h in omega arith in
-      let z = no-last (bitAt W) (bitAt-le W) x k (b .before) (ap (last (bitAt W)) (sym d) ∙ sym er ∙ e) in
-      omega arith
 
   module _ (h : k < p .«num_pushed») where
     here : x < p .«high_len»
@@ -121,17 +101,27 @@ module _ (i : List ℕ) (p : Parts) (k x : ℕ) (b : Behind i p k x) where
         let g = here in
         record { start = omega arith; room = omega arith; few = omega arith; rule = rule }
 
-    same-select : (r : Found) → r ≡ select (bitOver true W) ((p .«low_at» - 6) * 64) (count (bitOver true W) x + 0) → r ≡ select (bitOver true W) (p .«high_len») k
-    same-select r er =
+    over-before : count (bitOver true W) x ≡ k
+    over-before = ap (λ (f : ℕ → ℕ). count f x) over-one ∙ b .before
+
+    pub enough : count (bitOver true W) x < count (bitOver true W) ((p .«low_at» - 6) * 64)
+    enough =
+        let o = b .opened in
+        let c = opened.part-room i (o .ok) p (o .parts) in
+        let m = count-mono (bitOver true W) (p .«high_len») ((p .«low_at» - 6) * 64) c in
+        let t = ap (λ (f : ℕ → ℕ). count f (p .«high_len»)) over-one ∙ total in
+        let a = over-before in
+        omega arith
+
+    pub from-is : (y : ℕ) → select (bitOver true W) ((p .«low_at» - 6) * 64) (count (bitOver true W) x) ≡ At y → OneAt i p k y
+    from-is y e =
         let o = b .opened in
         let q = selecting.place-is i (o .ok) p (o .parts) k h in
-        let y = selected (bitOver true W) (p .«high_len») k _ q .within in
+        let l = selected (bitOver true W) (p .«high_len») k _ q .within in
         let c = opened.part-room i (o .ok) p (o .parts) in
-        let n : count (bitOver true W) x + 0 ≡ k = let a = ap (λ (f : ℕ → ℕ). count f x) over-one in let d = b .before in omega arith in
-        er ∙ ap (select (bitOver true W) ((p .«low_at» - 6) * 64)) n ∙ narrow-in (bitOver true W) (bitOver-le true W) (p .«high_len») ((p .«low_at» - 6) * 64) k _ q (lt-of-lt-of-le y c) ∙ sym q
-
-    pub from-is : (r : Found) → r ≡ select (bitOver true W) ((p .«low_at» - 6) * 64) (count (bitOver true W) x + 0) → (y : ℕ) → r ≡ At y → OneAt i p k y
-    from-is r er y e = record { ok = b .opened .ok; parts = b .opened .parts; below = h; place = sym (same-select r er) ∙ e }
-
-    pub from-some : (r : Found) → r ≡ select (bitOver true W) ((p .«low_at» - 6) * 64) (count (bitOver true W) x + 0) → r ≡ Nothing → ⊥
-    from-some r er e = selecting.some-place i (b .opened .ok) p (b .opened .parts) k h r (same-select r er) e
+        record {
+          ok = o .ok;
+          parts = o .parts;
+          below = h;
+          place = q ∙ sym (narrow-in (bitOver true W) (bitOver-le true W) (p .«high_len») ((p .«low_at» - 6) * 64) k _ q (lt-of-lt-of-le l c)) ∙ ap (select (bitOver true W) ((p .«low_at» - 6) * 64)) (sym over-before) ∙ e;
+        }

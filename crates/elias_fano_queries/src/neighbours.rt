@@ -1,7 +1,7 @@
 // The neighbours of a value: the greatest one at or below it, and the smallest at or above.
 //
 // Rank tells where in the high bits the neighbour is looked for: as many ones stand before the place as values are below. So no second
-// select is made: the next one, or the one before, is found by words.
+// select is made: the next one, or the one before, is mostly one of the 64 bits after the place, or before it.
 ghost use mathlib.Core.Path.{_≡_};
 ghost use Prim.Native.Nat.{_-_, _<_};
 ghost use lib.ListN.{length, getD};
@@ -11,9 +11,8 @@ ghost use Rattle.elias_fano.specs.Ask.{Predecessor, Successor, nth, asked, quer
 ghost use Rattle.elias_fano.specs.Opening.{Open};
 ghost use Rattle.elias_fano_queries.specs.Demands.{Behind};
 use crate::rank::rank_within;
-use bit_words::find_from;
-use bit_words::last_upto;
-use broadword::Found;
+use bit_words::first_from;
+use bit_words::last_before;
 use broadword::select_in_byte_table;
 use elias_fano::image::Opened;
 use elias_fano::image::Parts;
@@ -29,10 +28,8 @@ pub fn value_before(image: &[u64], p: Parts, k: usize, place: usize) -> u64
     ensures { λ r. ⌜ r ≡ getD (times (now (image .entry))) (k - 1) 0 ⌝ }
 {
     let start = p.low_at;
-    match last_upto(&image[6..start], place - 1) {
-        Found::At(x) => value_at(image, p, k - 1, x),
-        Found::Nothing => 0,
-    }
+    let x = last_before(&image[6..start], place);
+    value_at(image, p, k - 1, x)
 }
 
 // The first value whose one stands at the place or after it; k ones stand before.
@@ -41,10 +38,8 @@ fn value_from(image: &[u64], p: Parts, k: usize, place: usize, table: &[u8; 2048
     ensures { λ r. ⌜ r ≡ getD (times (now (image .entry))) k 0 ⌝ }
 {
     let start = p.low_at;
-    match find_from(&image[6..start], start - 6, true, table, place, 0) {
-        Found::At(x) => value_at(image, p, k, x),
-        Found::Nothing => 0,
-    }
+    let x = first_from(&image[6..start], start - 6, table, place);
+    value_at(image, p, k, x)
 }
 
 // The last value, if there is one.
