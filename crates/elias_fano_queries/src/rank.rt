@@ -175,12 +175,11 @@ pub fn rank_within(image: &[u64], p: Parts, val: u64, table: &[u8; 2048]) -> usi
 {
     let h = (val >> p.low_len) as usize;
     let end = count_upto(image, p, h, table);
-    if end < 2 {
-        return rank_from(image, p, val, end, table);
-    }
-    let last = last_from(image, p, val, end);
-    if last & high_bit(image, p, h + (end - 2)) == 0 {
-        return end - last as usize;
+    if end >= 2 {
+        let last = last_from(image, p, val, end);
+        if last & high_bit(image, p, h + (end - 2)) == 0 {
+            return end - last as usize;
+        }
     }
     rank_from(image, p, val, end, table)
 }
