@@ -84,38 +84,28 @@ module _ (ws : List ℕ) (len l k : ℕ) (m : Mark) (s : Seekable ws len true l 
   number-is : count f (m .place) + (k - m .ones) ≡ k
   number-is = omega (arith, s .marked .counted, s .upto)
 
-  module _ (used : ℕ) (e : used ≡ wordsFor len) (r : Found) (er : r ≡ select (bitOver true ws) (used * 64) (count (bitOver true ws) (m .place) + (k - m .ones))) where
-    all : len ≤ used * 64
-    all = omega arith
+  module _ (used : ℕ) (e : used ≡ wordsFor len) where
+    pub ahead : count (bitOver true ws) (m .place) + (k - m .ones) < count (bitOver true ws) (used * 64)
+    ahead = let n = number-is in let c = counted in let d = count-mono f len (used * 64) (omega arith) in omega arith
 
-    pub found : (x : ℕ) → r ≡ At x → (x < len) × (x ≡ getD (onesOf ws len) k 0) × (count (bitOver true ws) x ≡ k)
-    found x ex =
-        let q = selected f (used * 64) k x (sym (ap (select f (used * 64)) number-is) ∙ sym er ∙ ex) in
-        (position.below f x len (let c = counted in omega (arith, q .before)), sym (ones.is ws len k x (q .one) (q .before) there), q .before)
+    module _ (x : ℕ) (ex : select (bitOver true ws) (used * 64) (count (bitOver true ws) (m .place) + (k - m .ones)) ≡ At x) where
+      found : (x < len) × (x ≡ getD (onesOf ws len) k 0) × (count (bitOver true ws) x ≡ k)
+      found =
+          let q = selected f (used * 64) k x (sym (ap (select f (used * 64)) number-is) ∙ ex) in
+          (position.below f x len (let c = counted in omega (arith, q .before)), sym (ones.is ws len k x (q .one) (q .before) there), q .before)
 
-    pub not-lost : r ≡ Nothing → ⊥
-    not-lost en =
-        let q = select-some f (used * 64) k (bitOver-le true ws) (let c = counted in let d = count-mono f len (used * 64) all in omega arith) in
-        let z = select-at f (used * 64) k (q .0) (q .1 .within) (q .1 .one) (q .1 .before) in
-        let y : Nothing ≡ At (q .0) = sym en ∙ er ∙ ap (select f (used * 64)) number-is ∙ z in
-        let c : _≡_ {A = ℕ} 0 1 = cc in
-        omega arith
+      pub seen-one : Seen ws len true l k (record { at = x / 2 ^ l + k; mark = record { place = x; ones = k } })
+      seen-one = record {
+        at = ap₂ (λ (y z : ℕ). y / 2 ^ z + k) (found .1) (s .low) ∙ sym (highs.one-is ws len (s .countable) k (s .there));
+        marked = record { counted = sym (found .2); upto = le-of-lt (found .0) };
+        upto = le-refl k;
+      }
 
-    pub seen-one : (x : ℕ) → r ≡ At x → Seen ws len true l k (record { at = x / 2 ^ l + k; mark = record { place = x; ones = k } })
-    seen-one x ex =
-        let q = found x ex in
-        record {
-          at = ap₂ (λ (y z : ℕ). y / 2 ^ z + k) (q .1) (s .low) ∙ sym (highs.one-is ws len (s .countable) k (s .there));
-          marked = record { counted = sym (q .2); upto = le-of-lt (q .0) };
-          upto = le-refl k;
-        }
-
-    pub high-fits : (x : ℕ) → r ≡ At x → x / 2 ^ l + k < 2 ^ 64
-    high-fits x ex =
-        let q = found x ex in
-        let a : x / 2 ^ l < 2 * length (onesOf ws len) = subst⁻¹ (λ (z : ℕ). x / 2 ^ z < 2 * length (onesOf ws len)) (s .low) (highs.high-small ws len (s .countable) x (le-of-lt (q .0))) in
-        let b = there in
-        omega (arith, s .countable .most)
+      pub high-fits : x / 2 ^ l + k < 2 ^ 64
+      high-fits =
+          let a : x / 2 ^ l < 2 * length (onesOf ws len) = subst⁻¹ (λ (z : ℕ). x / 2 ^ z < 2 * length (onesOf ws len)) (s .low) (highs.high-small ws len (s .countable) x (le-of-lt (found .0))) in
+          let b = there in
+          omega (arith, s .countable .most)
 
 -- ---- a zero of the high bits
 

@@ -14,9 +14,8 @@ ghost use Rattle.darray.specs.Sizes.{Sized};
 ghost use Rattle.darray_positions.specs.Index.{before};
 ghost use Rattle.elias_fano_from_bits.specs.Building.{Countable, lowOf, highOf, Marked, Seekable, Seen};
 use bit_words::WORD_LEN;
-use bit_words::find_from;
+use bit_words::find_within;
 use bit_words::words_for;
-use broadword::Found;
 use broadword::popcount;
 use darray::inner::Sizes;
 use darray::inner::sizes_by;
@@ -84,19 +83,11 @@ fn high_one(
     requires { ⌜ (Seekable (now words) len true l k from × SelectInByte (now table)) ⌝ }
     ensures { λ r. ⌜ Seen (now (words .entry)) len true l k r ⌝ }
 {
-    match find_from(
-        words,
-        words_for(len),
-        true,
-        table,
-        from.place,
-        k - from.ones,
-    ) {
-        Found::At(place) => HighPlace {
-            at: ((place >> l) + k) as u64,
-            mark: Mark { place, ones: k },
-        },
-        Found::Nothing => HighPlace { at: 0, mark: from },
+    let used = words_for(len);
+    let place = find_within(words, used, true, table, from.place, k - from.ones);
+    HighPlace {
+        at: ((place >> l) + k) as u64,
+        mark: Mark { place, ones: k },
     }
 }
 

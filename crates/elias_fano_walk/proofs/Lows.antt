@@ -14,8 +14,8 @@ use Rattle.broadword.proofs.Count.{bit-mod}
 use Rattle.broadword.proofs.Fields.{word-same}
 use Rattle.bit_words.specs.Vector.{bitAt}
 use Rattle.bit_words.proofs.Runs.{bitAt-le}
-use Rattle.bit_words.proofs.Windows.{number-bits}
-use Rattle.elias_fano_words.proofs.Reading.{number-bit, masked, low-none}
+use Rattle.bit_words.proofs.Windows.{number-bit, number-bits}
+use Rattle.elias_fano_words.proofs.Reading.{masked, low-none}
 use Rattle.elias_fano_walk.specs.Walking.{LowsAhead}
 
 -- none yet
