@@ -8,13 +8,11 @@ use native.Mathlib.Omega.{arith}
 use lib.ListN.{length, getD}
 use Rattle.broadword.specs.Bits.{count}
 use Rattle.broadword.specs.Places.{select, SelectInByte}
-use Rattle.broadword.specs.declared.Found.{Found}
-use Rattle.broadword.specs.declared.Found.the-variants.{At, Nothing}
+use Rattle.broadword.specs.declared.Found.the-variants.{At}
 use Rattle.broadword.proofs.Count.{count-mono}
-use Rattle.broadword.proofs.Find.{selected, select-at, select-some}
+use Rattle.broadword.proofs.Find.{selected}
 use Rattle.bit_words.specs.Inner.{Findable}
 use Rattle.bit_words.specs.Vector.{wordsFor, bitOver}
-use Rattle.bit_words.proofs.Runs.{bitOver-le}
 use Rattle.bit_words.proofs.Valid.{valid}
 use Rattle.darray_positions.proofs.Positions as position
 use Rattle.elias_fano_queries.proofs.Upper as upper
