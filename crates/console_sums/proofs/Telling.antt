@@ -81,7 +81,7 @@ module _ (i : List ℕ) where
   accesses-by ok j (suc count) = ap₂ (λ (a : Answer) (l : List Answer). a ∷ l) (access-is i j ok) (accesses-by ok (suc j) count)
 
   module _ (count : ℕ) (g : Gathered) (s : ItemsStart) (t : StartsItems i 0 s) where
-    pub walk-started : (c : ItemPlace) → s ≡ started.ItemPlace c → withAnswers g (nextsFrom (itemsOf i) (c .walk .number) count) ≡ walkItemsOf i count g
+    pub walk-started : (c : ItemPlace) → s ≡ started.ItemPlace c → withAnswers g (nextsFrom (itemsOf i) (c .walk .values .number) count) ≡ walkItemsOf i count g
     unfolding walkItemsOf
     walk-started c e =
         let b = subst (StartsItems i 0) e t in

@@ -9,7 +9,9 @@ use broadword::debruijn64_table;
 use console_questions::walk::next_shown;
 use console_questions::walk::shown;
 use console_text::output;
+use elias_fano::image::Parts;
 use prefix_summed_elias_fano::walk::ItemPlace;
+use prefix_summed_elias_fano::walk::ItemWalk;
 use prefix_summed_elias_fano::walk::ItemsStart;
 use prefix_summed_elias_fano::walk::next_item;
 use prefix_summed_elias_fano::walk::start_items;
@@ -17,23 +19,24 @@ use prefix_summed_elias_fano::walk::start_items;
 // The next `count` answers, each after a space.
 fn rest(
     image: &[u64],
-    from: ItemPlace,
+    p: Parts,
+    from: ItemWalk,
     places: &[u8; 64],
     count: usize,
     out: &mut [u8; 65536],
     at: usize,
 ) -> usize
-    requires { ⌜ (ItemsOver (now image) from × Debruijn64 (now places)) ⌝ }
-    ensures { λ t. ⌜ gathered t (now (out .exit)) ≡ withEach (gathered at (now (out .entry))) (nextsFrom (itemsOf (now (image .entry))) (from .walk .number) count) ⌝ }
+    requires { ⌜ (ItemsOver (now image) p from × Debruijn64 (now places)) ⌝ }
+    ensures { λ t. ⌜ gathered t (now (out .exit)) ≡ withEach (gathered at (now (out .entry))) (nextsFrom (itemsOf (now (image .entry))) (from .values .number) count) ⌝ }
 {
-    let mut c = from;
+    let mut w = from;
     let mut to = at;
     let mut i: usize = 0;
     while i < count {
-        let s = next_item(image, c, places);
+        let s = next_item(image, p, w, places);
         let v = s.item;
         to = next_shown(out, to, v);
-        c = s.place;
+        w = s.rest;
         i += 1;
     }
     to
@@ -42,32 +45,35 @@ fn rest(
 // The next `count` answers with a space between them.
 fn walked(
     image: &[u64],
-    from: ItemPlace,
+    p: Parts,
+    from: ItemWalk,
     places: &[u8; 64],
     count: usize,
     out: &mut [u8; 65536],
     at: usize,
 ) -> usize
-    requires { ⌜ (ItemsOver (now image) from × Debruijn64 (now places)) ⌝ }
-    ensures { λ t. ⌜ gathered t (now (out .exit)) ≡ withAnswers (gathered at (now (out .entry))) (nextsFrom (itemsOf (now (image .entry))) (from .walk .number) count) ⌝ }
+    requires { ⌜ (ItemsOver (now image) p from × Debruijn64 (now places)) ⌝ }
+    ensures { λ t. ⌜ gathered t (now (out .exit)) ≡ withAnswers (gathered at (now (out .entry))) (nextsFrom (itemsOf (now (image .entry))) (from .values .number) count) ⌝ }
 {
     if count == 0 {
         return at;
     }
-    let s = next_item(image, from, places);
+    let s = next_item(image, p, from, places);
     let v = s.item;
-    let c = s.place;
+    let w = s.rest;
     let to = shown(out, at, v);
-    rest(image, c, places, count - 1, out, to)
+    rest(image, p, w, places, count - 1, out, to)
 }
 
 // The same with the table made here.
-fn over(image: &[u64], from: ItemPlace, count: usize, out: &mut [u8; 65536], at: usize) -> usize
-    requires { ⌜ ItemsOver (now image) from ⌝ }
-    ensures { λ t. ⌜ gathered t (now (out .exit)) ≡ withAnswers (gathered at (now (out .entry))) (nextsFrom (itemsOf (now (image .entry))) (from .walk .number) count) ⌝ }
+fn over(image: &[u64], c: ItemPlace, count: usize, out: &mut [u8; 65536], at: usize) -> usize
+    requires { ⌜ ItemsOver (now image) (c .parts) (c .walk) ⌝ }
+    ensures { λ t. ⌜ gathered t (now (out .exit)) ≡ withAnswers (gathered at (now (out .entry))) (nextsFrom (itemsOf (now (image .entry))) (c .walk .values .number) count) ⌝ }
 {
     let places = debruijn64_table();
-    walked(image, from, &places, count, out, at)
+    let p = c.parts;
+    let from = c.walk;
+    walked(image, p, from, &places, count, out, at)
 }
 
 pub fn answer(image: &[u64], count: usize, out: &mut [u8; 65536], at: usize) -> usize

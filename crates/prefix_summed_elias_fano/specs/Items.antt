@@ -8,11 +8,12 @@ use lib.Dec.{eqb}
 use lib.ListN.{length, getD}
 use Rattle.errors.specs.Answer.{value, refused, Outcome, leaves}
 use Rattle.errors.specs.Refusal.{numberOf}
+use Rattle.elias_fano.specs.declared.image.Parts.{Parts}
 use Rattle.elias_fano.specs.Accept.{accepted, partsOf, times, ofValue}
 use Rattle.elias_fano.specs.Ask.{readOut, filled}
 use Rattle.elias_fano_walk.specs.Walking.{WalkOver, Walked, walked}
 use Rattle.prefix_summed_elias_fano.specs.Sums.{accessOf}
-use Rattle.prefix_summed_elias_fano.specs.declared.walk.ItemPlace.{ItemPlace}
+use Rattle.prefix_summed_elias_fano.specs.declared.walk.ItemWalk.{ItemWalk}
 use Rattle.prefix_summed_elias_fano.specs.declared.walk.ItemStep.{ItemStep}
 use Rattle.prefix_summed_elias_fano.specs.declared.walk.ItemsStart.{ItemsStart}
 use Rattle.prefix_summed_elias_fano.specs.declared.walk.ItemsStart.the-variants as started
@@ -37,24 +38,24 @@ abbrev pub ItemWalks : Type 0
 ItemWalks = (i : List ℕ) (k j : ℕ) → cond (askable i) (walked (itemsOf i) k j) (refused 7) ≡ accessOf i (k + j)
 
 -- an item is ahead: the walk over the values from its own on, and the value before it
-pub record ItemAhead (i : List ℕ) (c : ItemPlace) : Type 0 where
+pub record ItemAhead (i : List ℕ) (p : Parts) (w : ItemWalk) : Type 0 where
   pub ok : accepted i ≡ true
-  pub parts : c .parts ≡ partsOf i
-  pub walk : WalkOver i (c .parts) (c .walk)
-  pub before : c .before ≡ getD (0 ∷ times i) (c .walk .number) 0
+  pub parts : p ≡ partsOf i
+  pub walk : WalkOver i p (w .values)
+  pub before : w .before ≡ getD (0 ∷ times i) (w .values .number) 0
 
--- a place as the start and each step leave it; at the end nothing is demanded of it
-pub record ItemsOver (i : List ℕ) (c : ItemPlace) : Type 0 where
-  pub many : c .parts .«num_pushed» ≡ length (times i)
-  pub ahead : c .walk .number < c .parts .«num_pushed» → ItemAhead i c
+-- a walk as the start and each step leave it; at its end nothing is demanded of it
+pub record ItemsOver (i : List ℕ) (p : Parts) (w : ItemWalk) : Type 0 where
+  pub many : p .«num_pushed» ≡ length (times i)
+  pub ahead : w .values .number < p .«num_pushed» → ItemAhead i p w
 
 abbrev pub StartsItems : List ℕ → ℕ → ItemsStart → Type 0
-StartsItems i k (started.ItemPlace c) = (askable i ≡ true) × ItemsOver i c × (c .walk .number ≡ k)
+StartsItems i k (started.ItemPlace c) = (askable i ≡ true) × ItemsOver i (c .parts) (c .walk) × (c .walk .values .number ≡ k)
 StartsItems i k (started.Refused e) = (askable i ≡ false) × (numberOf e ≡ 7)
 
 -- what a step leaves: its answer, and the number of the next item
 abbrev pub ofItemStep : ItemStep → Walked
-ofItemStep r = record { answer = ofValue (r .item); number = r .place .walk .number }
+ofItemStep r = record { answer = ofValue (r .item); number = r .rest .values .number }
 
 -- ---- reading out
 

@@ -1,7 +1,7 @@
 // A walk over the items of an image, from a place on: each is the difference of two neighbouring values of the record's walk, and no item costs a
 // select. Its state is a value beside the image, which each step takes again. `start_items` decides 7 once; no words have no items.
 //
-// `next_item` and `take_item` are inner: they demand a place in the image, as `start_items` and each step leave it.
+// `next_item` and `take_item` are inner: they demand the parts of the image and a walk over it, as `start_items` and each step leave it.
 ghost use mathlib.Core.Bool.{true};
 ghost use mathlib.Core.Path.{_≡_};
 ghost use mathlib.Core.List.{_∷_, _++_};
@@ -29,13 +29,17 @@ use elias_fano_walk::walk::ended;
 use elias_fano_walk::walk::take;
 use errors::Refusal;
 
-// A place in an image.
-pub struct ItemPlace {
-    pub parts: Parts,
+pub struct ItemWalk {
     // The value before the next one, 0 at first: the sum of the items before.
     pub before: u64,
     // From the next value on.
-    pub walk: Walk,
+    pub values: Walk,
+}
+
+// The parts of an image, and a walk over it.
+pub struct ItemPlace {
+    pub parts: Parts,
+    pub walk: ItemWalk,
 }
 
 pub enum ItemsStart {
@@ -45,12 +49,12 @@ pub enum ItemsStart {
 
 pub struct ItemTaken {
     pub item: u64,
-    pub place: ItemPlace,
+    pub rest: ItemWalk,
 }
 
 pub struct ItemStep {
     pub item: Value,
-    pub place: ItemPlace,
+    pub rest: ItemWalk,
 }
 
 // The sum of the items before the place k: the value before that with the number k.
@@ -70,21 +74,20 @@ fn sum_before(image: &[u64], p: Parts, k: usize, table: &[u8; 2048]) -> u64
 // The place k of an accepted image, as `begin` of the walk over its values.
 fn begin_items(image: &[u64], p: Parts, k: usize) -> ItemPlace
     requires { ⌜ ((accepted (now image) ≡ true) × (p ≡ partsOf (now image))) ⌝ }
-    ensures { λ r. ⌜ (ItemsOver (now (image .entry)) r × (r .walk .number ≡ k)) ⌝ }
+    ensures { λ r. ⌜ (ItemsOver (now (image .entry)) (r .parts) (r .walk) × (r .walk .values .number ≡ k)) ⌝ }
 {
     let table = select_in_byte_table();
     let before = sum_before(image, p, k, &table);
-    let walk = begin(image, p, k, &table);
+    let values = begin(image, p, k, &table);
     ItemPlace {
         parts: p,
-        before,
-        walk,
+        walk: ItemWalk { before, values },
     }
 }
 
 // The place k of no words.
 fn begin_none(k: usize) -> ItemPlace
-    ensures { λ r. ⌜ ((r .parts .«num_pushed» ≡ 0) × (r .walk .number ≡ k)) ⌝ }
+    ensures { λ r. ⌜ ((r .parts .«num_pushed» ≡ 0) × (r .walk .values .number ≡ k)) ⌝ }
 {
     ItemPlace {
         parts: Parts {
@@ -98,8 +101,10 @@ fn begin_none(k: usize) -> ItemPlace
             ones_at: 0,
             zeros_at: 0,
         },
-        before: 0,
-        walk: ended(k),
+        walk: ItemWalk {
+            before: 0,
+            values: ended(k),
+        },
     }
 }
 
@@ -117,67 +122,74 @@ pub fn start_items(image: &[u64], k: usize) -> ItemsStart
 }
 
 // The next item, which there is.
-pub fn take_item(image: &[u64], c: ItemPlace, places: &[u8; 64]) -> ItemTaken
-    requires { ⌜ (ItemsOver (now image) c × Debruijn64 (now places) × (c .walk .number < c .parts .«num_pushed»)) ⌝ }
-    ensures { λ r. ⌜ (ItemsOver (now (image .entry)) (r .place) × (r .place .walk .number ≡ suc (c .walk .number)) × (r .item ≡ getD (itemsOf (now (image .entry))) (c .walk .number) 0)) ⌝ }
+pub fn take_item(image: &[u64], p: Parts, w: ItemWalk, places: &[u8; 64]) -> ItemTaken
+    requires { ⌜ (ItemsOver (now image) p w × Debruijn64 (now places) × (w .values .number < p .«num_pushed»)) ⌝ }
+    ensures { λ r. ⌜ (ItemsOver (now (image .entry)) p (r .rest) × (r .rest .values .number ≡ suc (w .values .number)) × (r .item ≡ getD (itemsOf (now (image .entry))) (w .values .number) 0)) ⌝ }
 {
-    let p = c.parts;
-    let w = c.walk;
-    let t = take(image, p, w, places);
-    let rest = t.walk;
+    let from = w.values;
+    let t = take(image, p, from, places);
+    let values = t.walk;
     ItemTaken {
-        item: t.value - c.before,
-        place: ItemPlace {
-            parts: p,
+        item: t.value - w.before,
+        rest: ItemWalk {
             before: t.value,
-            walk: rest,
+            values,
         },
     }
 }
 
 // The next item, or none, and none again.
-pub fn next_item(image: &[u64], c: ItemPlace, places: &[u8; 64]) -> ItemStep
-    requires { ⌜ (ItemsOver (now image) c × Debruijn64 (now places)) ⌝ }
-    ensures { λ r. ⌜ (ItemsOver (now (image .entry)) (r .place) × (ofItemStep r ≡ valueStepOf (itemsOf (now (image .entry))) (c .walk .number))) ⌝ }
+pub fn next_item(image: &[u64], p: Parts, w: ItemWalk, places: &[u8; 64]) -> ItemStep
+    requires { ⌜ (ItemsOver (now image) p w × Debruijn64 (now places)) ⌝ }
+    ensures { λ r. ⌜ (ItemsOver (now (image .entry)) p (r .rest) × (ofItemStep r ≡ valueStepOf (itemsOf (now (image .entry))) (w .values .number))) ⌝ }
 {
-    if c.walk.number >= c.parts.num_pushed as usize {
+    if w.values.number >= p.num_pushed as usize {
         return ItemStep {
             item: Value::Nothing,
-            place: c,
+            rest: w,
         };
     }
-    let t = take_item(image, c, places);
-    let rest = t.place;
+    let t = take_item(image, p, w, places);
+    let rest = t.rest;
     ItemStep {
         item: Value::Is(t.item),
-        place: rest,
+        rest,
     }
 }
 
 // The next `count` items are written to the first words of `out`.
-fn take_items(image: &[u64], from: ItemPlace, places: &[u8; 64], count: usize, out: &mut [u64])
-    requires { ⌜ (ItemsOver (now image) from × Debruijn64 (now places) × (count ≤ from .parts .«num_pushed» - from .walk .number) × (count ≤ length (now out))) ⌝ }
-    ensures { λ _. ⌜ now (out .exit) ≡ takeList count (drop (from .walk .number) (itemsOf (now (image .entry)))) ++ drop count (now (out .entry)) ⌝ }
+fn take_items(
+    image: &[u64],
+    p: Parts,
+    from: ItemWalk,
+    places: &[u8; 64],
+    count: usize,
+    out: &mut [u64],
+)
+    requires { ⌜ (ItemsOver (now image) p from × Debruijn64 (now places) × (count ≤ p .«num_pushed» - from .values .number) × (count ≤ length (now out))) ⌝ }
+    ensures { λ _. ⌜ now (out .exit) ≡ takeList count (drop (from .values .number) (itemsOf (now (image .entry)))) ++ drop count (now (out .entry)) ⌝ }
 {
-    let mut c = from;
+    let mut w = from;
     let mut i = 0;
     while i < count {
-        let t = take_item(image, c, places);
+        let t = take_item(image, p, w, places);
         out[i] = t.item;
-        let rest = t.place;
-        c = rest;
+        let rest = t.rest;
+        w = rest;
         i += 1;
     }
 }
 
 // The items from a place on, as many as the words take; how many were written.
-fn read_on(image: &[u64], from: ItemPlace, out: &mut [u64]) -> usize
-    requires { ⌜ ItemsOver (now image) from ⌝ }
-    ensures { λ r. ⌜ (r ≡ length (readOut (itemsOf (now (image .entry))) (from .walk .number) (length (now (out .entry)))) × (now (out .exit) ≡ filled (itemsOf (now (image .entry))) (from .walk .number) (now (out .entry)))) ⌝ }
+fn read_on(image: &[u64], c: ItemPlace, out: &mut [u64]) -> usize
+    requires { ⌜ ItemsOver (now image) (c .parts) (c .walk) ⌝ }
+    ensures { λ r. ⌜ (r ≡ length (readOut (itemsOf (now (image .entry))) (c .walk .values .number) (length (now (out .entry)))) × (now (out .exit) ≡ filled (itemsOf (now (image .entry))) (c .walk .values .number) (now (out .entry)))) ⌝ }
 {
     let places = debruijn64_table();
-    let count = how_many(from.parts.num_pushed as usize, from.walk.number, out.len());
-    take_items(image, from, &places, count, &mut *out);
+    let p = c.parts;
+    let from = c.walk;
+    let count = how_many(p.num_pushed as usize, from.values.number, out.len());
+    take_items(image, p, from, &places, count, &mut *out);
     count
 }
 

@@ -13,19 +13,19 @@ use Rattle.console_sums.proofs.walk.rest.Statement.{statement}
 use Rattle.console_sums.proofs.walk.rest.Tie as tie
 
 abbrev Inv-loop : tie.InvT-loop
-Inv-loop image places count out₀ at c₀ to₀ i₀ out c to i =
+Inv-loop image p places count out₀ at w₀ to₀ i₀ out w to i =
     (i ≤ count)
-    × ItemsOver image c
-    × (withEach (gathered to₀ out₀) (nextsFrom (itemsOf image) (c₀ .walk .number) count) ≡ withEach (gathered to out) (nextsFrom (itemsOf image) (c .walk .number) (count - i)))
+    × ItemsOver image p w
+    × (withEach (gathered to₀ out₀) (nextsFrom (itemsOf image) (w₀ .values .number) count) ≡ withEach (gathered to out) (nextsFrom (itemsOf image) (w .values .number) (count - i)))
 
 abbrev μ-loop : tie.MeasureT-loop
-μ-loop image places count out₀ at c₀ to₀ i₀ out c to i = count - i
+μ-loop image p places count out₀ at w₀ to₀ i₀ out w to i = count - i
 
 loop-holds : tie.Need-loop-holds Inv-loop μ-loop
 loop-holds c =
     let a = c .before .args in
     let e : a .count ≡ a .count - 0 = omega arith in
-    (omega arith, c .before .pre .0, ap (λ (n : ℕ). withEach (gathered (a .at) (a .out .now)) (nextsFrom (itemsOf (a .image .now)) (a .from .walk .number) n)) e)
+    (omega arith, c .before .pre .0, ap (λ (n : ℕ). withEach (gathered (a .at) (a .out .now)) (nextsFrom (itemsOf (a .image .now)) (a .from .values .number) n)) e)
 
 next-item-requires : tie.Need-next-item-requires Inv-loop μ-loop
 next-item-requires c κs = (c .before .loop .inv .1, c .before .before .before .pre .1)
@@ -46,13 +46,13 @@ loop-again c =
     let s = c .before .before .before .next-item in
     let to = c .before .next-shown in
     let e : a .count - l .i ≡ suc (a .count - (l .i + 1)) = omega arith in
-    (omega arith, s .ensures .0, l .inv .2 ∙ rest-more (itemsOf (a .image .now)) (gathered (l .to) (l .out)) (l .c .walk .number) (ofValue (s .result .item)) (s .result .place .walk .number) _ (a .count - l .i) (a .count - (l .i + 1)) e (s .ensures .1) (to .ensures))
+    (omega arith, s .ensures .0, l .inv .2 ∙ rest-more (itemsOf (a .image .now)) (gathered (l .to) (l .out)) (l .w .values .number) (ofValue (s .result .item)) (s .result .rest .values .number) _ (a .count - l .i) (a .count - (l .i + 1)) e (s .ensures .1) (to .ensures))
 
 returns : tie.Need-returns Inv-loop μ-loop
 returns c =
     let a = c .before .before .before .args in
     let l = c .before .loop in
-    sym (l .inv .2 ∙ rest-done (itemsOf (a .image .now)) (gathered (l .to) (l .out)) (l .c .walk .number) (a .count - l .i) (omega arith))
+    sym (l .inv .2 ∙ rest-done (itemsOf (a .image .now)) (gathered (l .to) (l .out)) (l .w .values .number) (a .count - l .i) (omega arith))
 
 pub rest-spec : {M : Type 1} → statement M
 rest-spec =

@@ -13,7 +13,7 @@ use Rattle.console_sums.proofs.walk.walked.Tie as tie
 returns : tie.Need-returns
 returns c =
     let a = c .before .before .args in
-    sym (all-done (itemsOf (a .image .now)) (gathered (a .at) (a .out .now)) (a .from .walk .number) (a .count) (c .if1 .taken))
+    sym (all-done (itemsOf (a .image .now)) (gathered (a .at) (a .out .now)) (a .from .values .number) (a .count) (c .if1 .taken))
 
 next-item-requires : tie.Need-next-item-requires
 next-item-requires c κs = search needs
@@ -32,7 +32,7 @@ returns-2 c =
     let a = c .before .before .before .before .before .before .before .before .args in
     let s = c .before .before .before .before .before .next-item in
     let e : a .count ≡ suc (a .count - 1) = omega (arith, c .before .before .before .before .before .before .if1 .left) in
-    c .rest .ensures ∙ sym (all-more (itemsOf (a .image .now)) (gathered (a .at) (a .out .now)) (a .from .walk .number) (ofValue (s .result .item)) (s .result .place .walk .number) _ (a .count) (a .count - 1) e (s .ensures .1) (c .before .before .shown .ensures))
+    c .rest .ensures ∙ sym (all-more (itemsOf (a .image .now)) (gathered (a .at) (a .out .now)) (a .from .values .number) (ofValue (s .result .item)) (s .result .rest .values .number) _ (a .count) (a .count - 1) e (s .ensures .1) (c .before .before .shown .ensures))
 
 pub walked-spec : {M : Type 1} → statement M
 walked-spec =

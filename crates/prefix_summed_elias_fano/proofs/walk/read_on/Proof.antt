@@ -17,7 +17,7 @@ same-length : tie.Need-same-length
 same-length c = search needs
 
 returns : tie.Need-returns
-returns c = let s = c .before .before .before .before .before .before .before .before .before in let n = c .before .before .before .before .before .how-many in (taking.read-many (s .args .image .now) (s .args .from) (s .pre) (n .result) (s .args .out .now) (n .ensures), taking.read-fills (s .args .image .now) (s .args .from) (s .pre) (n .result) (s .args .out .now) (n .ensures) _ (c .before .before .take-items .ensures))
+returns c = let s = c .before .before .before .before .before .before .before .before .before .before .before in let n = c .before .before .before .before .before .how-many in (taking.read-many (s .args .image .now) (s .args .c .parts) (s .args .c .walk) (s .pre) (n .result) (s .args .out .now) (n .ensures), taking.read-fills (s .args .image .now) (s .args .c .parts) (s .args .c .walk) (s .pre) (n .result) (s .args .out .now) (n .ensures) _ (c .before .before .take-items .ensures))
 
 pub read-on-spec : {M : Type 1} → statement M
 read-on-spec =
