@@ -143,8 +143,8 @@ impl Sums {
                     *out = x;
                 }
             },
-            || drop(port::sums_read(black_box(&self.image), &mut written)),
-            || drop(port::sums_read(black_box(&self.image), &mut [])),
+            || port::sums_read(black_box(&self.image), &mut written),
+            || port::sums_read(black_box(&self.image), &mut []),
         );
     }
 }
