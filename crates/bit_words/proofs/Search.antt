@@ -3,17 +3,17 @@ use mathlib.Core.Path.{_≡_, sym, ap, ap₂, _∙_, subst}
 use mathlib.Core.List.{List}
 use mathlib.Core.Bool.{Bool}
 use Prim.Native.Nat.{ℕ, _+_, _-_, _*_, _/_, _%_, _^_, _≤_, _<_}
-use native.Mathlib.Nat.{le-refl, le-of-lt, le-of-eq, lt-of-le-of-lt, lt-of-lt-of-le, lt-of-not-le, mod-lt, mul-div-cancel, zero-add, mod-eq-of-lt}
+use native.Mathlib.Nat.{le-refl, le-of-lt, le-of-eq, lt-of-le-of-lt, lt-of-not-le, mul-div-cancel, zero-add, mod-eq-of-lt}
 use native.Mathlib.Decide.{decLt}
 use native.Mathlib.Omega.{arith}
 use lib.ListN.{getD, take}
-use lib.Pow.{pow-pos, pow-mono, split}
+use lib.Pow.{pow-pos, split}
 use Rattle.broadword.specs.Bits.{bit, count, ones}
 use Rattle.broadword.specs.Fields.{word}
 use Rattle.broadword.specs.Places.{select}
 use Rattle.broadword.specs.declared.Found.{Found}
 use Rattle.broadword.specs.declared.Found.the-variants.{At, Nothing}
-use Rattle.broadword.proofs.Count.{bit-le, bit-above, bit-mod, bit-shift, count-add, count-mono, count-zero, count-same}
+use Rattle.broadword.proofs.Count.{bit-le, bit-shift, count-add, count-mono, count-zero, count-same}
 use Rattle.broadword.proofs.Find.{selected, select-at, select-none, select-some}
 use Rattle.bit_words.specs.Vector.{bitAt, bitOver, wordOver}
 use Rattle.bit_words.specs.Inner.{Skipped, placeIn}
@@ -131,6 +131,13 @@ module _ (b : Bool) (ws : List ℕ) (fit : Fit ws) where
       pub find-none : i ≡ used → Nothing ≡ select (bitOver b ws) (used * 64) (count (bitOver b ws) from + k)
       find-none e = sym (select-none (bitOver b ws) (used * 64) (count (bitOver b ws) from + k) (let t = total in subst (λ (n : ℕ). count (bitOver b ws) (n * 64) ≤ count (bitOver b ws) from + k) e (omega arith)))
 
+      pub spot-used : count (bitOver b ws) from + k < count (bitOver b ws) (used * 64) → i < used
+      spot-used some =
+          lt-of-not-le (λ (g : used ≤ i).
+          let t = total in
+          let m = count-mono (bitOver b ws) (used * 64) (i * 64) (omega arith) in
+          omega arith)
+
       pub find-word : (y : ℕ) (a : Found) → y ≡ wordOver b (getD ws i 0) → i < used → a ≡ select (bit y) 64 left → placeIn i a ≡ select (bitOver b ws) (used * 64) (count (bitOver b ws) from + k)
       find-word y a ey u ea =
           let t = select-found y left (left-lt b ws fit i left y ey (s .here u)) in
@@ -176,48 +183,13 @@ module _ (b : Bool) (ws : List ℕ) (used from k x : ℕ) (is : x ≡ wordOver b
             (ahead-count t (le-of-lt (r .within)) (le-of-lt w) ∙ ap (λ (y : ℕ). count F from + y) (r .before)),
       )
 
--- ---- the same word by word, from the beginning of the place's own word on
+  -- they do not have it, nor has the rest of the place's own word
+  pub ahead-past : (p : ℕ) → p ≡ ones x 64 → p ≤ k → from ≤ used * 64 → count F ((from / 64 + 1) * 64) ≤ count F from + k
+  ahead-past p ep o u =
+      let w = within 64 (omega arith) (le-refl 64) u in
+      let a = ahead-count 64 (le-refl 64) (le-of-lt w) in
+      let m = count-mono F ((from / 64 + 1) * 64) (from + 64) (omega arith) in
+      omega arith
 
 pub some-select : (b : Bool) (ws : List ℕ) (n m : ℕ) → m < count (bitOver b ws) n → (r : Found) → r ≡ select (bitOver b ws) n m → r ≡ Nothing → ⊥
 some-select b ws n m h r er e = let f = select-few (bitOver b ws) (bitOver-le b ws) n n m (sym er ∙ e) in omega arith
-
--- the ones of the lowest bits
-ones-low : (x s : ℕ) → s ≤ 64 → ones (x % 2 ^ s) 64 ≡ ones x s
-ones-low x s h =
-    let y : ℕ = x % 2 ^ s in
-    let e : s + (64 - s) ≡ 64 = omega arith in
-    let z : count (λ i. bit y (s + i)) (64 - s) ≡ 0 = count-zero (λ i. bit y (s + i)) (64 - s) (λ i _. bit-above y (s + i) (lt-of-lt-of-le (mod-lt x (pow-pos s)) (pow-mono (let g : s ≤ s + i = omega arith in g)))) in
-    let a : count (bit y) s ≡ count (bit x) s = count-same (bit y) (bit x) s (λ i l. bit-mod x s i l) in
-    let c = count-add (bit y) s (64 - s) in
-    ap (count (bit y)) (sym e) ∙ (let d : count (bit y) (s + (64 - s)) ≡ count (bit x) s = omega arith in d)
-
--- the ones of the place's own word before it
-pub own-word : (b : Bool) (ws : List ℕ) → Fit ws → (from p : ℕ) → p ≡ ones (wordOver b (getD ws (from / 64) 0) % 2 ^ (from % 64)) 64 → count (bitOver b ws) from ≡ count (bitOver b ws) (from / 64 * 64) + p
-own-word b ws fit from p ep =
-    let d : from / 64 * 64 + from % 64 ≡ from = omega arith in
-    ap (count (bitOver b ws)) (sym d) ∙ count-word (bitOver b ws) (λ i. wordOver b (getD ws i 0)) (bitOver-word b ws fit) (from / 64) (from % 64) (omega arith)
-    ∙ ap (λ (y : ℕ). count (bitOver b ws) (from / 64 * 64) + y) (sym (ep ∙ ones-low (wordOver b (getD ws (from / 64) 0)) (from % 64) (omega arith)))
-
-module _ (b : Bool) (ws : List ℕ) (fit : Fit ws) (used from k p i left : ℕ) (some : count (bitOver b ws) from + k < count (bitOver b ws) (used * 64)) (ep : p ≡ ones (wordOver b (getD ws (from / 64) 0) % 2 ^ (from % 64)) 64) (s : Skipped (bitOver b ws) (from / 64) used (k + p) i left) where
-  spot-total : count (bitOver b ws) (i * 64) + left ≡ count (bitOver b ws) from + k
-  spot-total =
-      let o = own-word b ws fit from p ep in
-      let e = s .before in
-      omega arith
-
-  pub spot-used : i < used
-  spot-used =
-      lt-of-not-le (λ (g : used ≤ i).
-      let t = spot-total in
-      let m = count-mono (bitOver b ws) (used * 64) (i * 64) (omega arith) in
-      omega arith)
-
-  pub spot-left : (x : ℕ) → x ≡ wordOver b (getD ws i 0) → left < ones x 64
-  spot-left x ex = left-lt b ws fit i left x ex (s .here spot-used)
-
-  pub spot-at : (x t : ℕ) → x ≡ wordOver b (getD ws i 0) → select (bit x) 64 left ≡ At t → (t < 64) × (select (bitOver b ws) (used * 64) (count (bitOver b ws) from + k) ≡ At (i * 64 + t))
-  spot-at x t ex e =
-      let r = word-at b ws fit i left x t ex e in
-      let u = spot-used in
-      let l = r .0 in
-      (l, select-at (bitOver b ws) (used * 64) (count (bitOver b ws) from + k) (i * 64 + t) (omega arith) (r .1) (r .2 ∙ spot-total))

@@ -173,7 +173,7 @@ pub fn find_from(
     Found::At(word * WORD_LEN + select_in_word_within(table, bits, left))
 }
 
-// The same where there is such a one or zero, as a place: word by word, from the beginning of the place's own word on.
+// The same where there is such a one or zero, as a place, but the place's own word does not have it: word by word.
 fn find_by_words(
     words: &[u64],
     used: usize,
@@ -182,12 +182,13 @@ fn find_by_words(
     from: usize,
     k: usize,
 ) -> usize
-    requires { ⌜ (Findable (now words) used from (now table) × (count (bitOver «over_one» (now words)) from + k < count (bitOver «over_one» (now words)) (used * 64))) ⌝ }
+    requires { ⌜ (Findable (now words) used from (now table) × (count (bitOver «over_one» (now words)) from + k < count (bitOver «over_one» (now words)) (used * 64)) × (count (bitOver «over_one» (now words)) ((from / 64 + 1) * 64) ≤ count (bitOver «over_one» (now words)) from + k)) ⌝ }
     ensures { λ r. ⌜ select (bitOver «over_one» (now (words .entry))) (used * 64) (count (bitOver «over_one» (now (words .entry))) from + k) ≡ At r ⌝ }
 {
     let at = from / WORD_LEN;
-    let before = popcount(low_bits(word_over(words, at, over_one), from % WORD_LEN));
-    let spot = skip_words(words, at, used, over_one, k + before);
+    let shift = from % WORD_LEN;
+    let rest = popcount((word_over(words, at, over_one) >> shift) << shift);
+    let spot = skip_words(words, at + 1, used, over_one, k - rest);
     let word = spot.word;
     let left = spot.left;
     let bits = word_over(words, word, over_one);

@@ -8,7 +8,7 @@ use Rattle.broadword.specs.Bits.{count}
 use Rattle.broadword.specs.Places.{select}
 use Rattle.broadword.specs.declared.Found.the-variants.{At}
 use Rattle.bit_words.specs.Vector.{bitOver}
-use Rattle.bit_words.proofs.Search.{ahead-at}
+use Rattle.bit_words.proofs.Search.{ahead-at, ahead-past}
 use Rattle.bit_words.proofs.find_within.Statement.{statement}
 use Rattle.bit_words.proofs.find_within.Tie as tie
 
@@ -37,7 +37,9 @@ returns : tie.Need-returns
 returns c = here c .1
 
 find-by-words-requires : tie.Need-find-by-words-requires
-find-by-words-requires c κs = c .before .before .before .before .pre
+find-by-words-requires c κs =
+    let s = c .before .before .before .before in
+    (s .pre .0, s .pre .1, ahead-past (s .args .over-one) (s .args .words .now) (s .args .used) (s .args .from) (s .args .k) (c .before .before .window-over .result) (c .before .before .window-over .ensures) (s .pre .1) (c .before .popcount .result) (c .before .popcount .ensures) (c .if1 .left) (upto (s .args .used) (s .args .from) (s .pre .0 .start)))
 
 returns-2 : tie.Need-returns-2
 returns-2 c = c .find-by-words .ensures
