@@ -21,7 +21,7 @@ use Rattle.bit_words.proofs.Packed.{one-shl}
 use Rattle.elias_fano_words.specs.Checks.{Held, lowBits}
 
 -- the low bits of a low part
-pub mod-low : (x k n : ℕ) → n ≤ k → x % 2 ^ k % 2 ^ n ≡ x % 2 ^ n
+mod-low : (x k n : ℕ) → n ≤ k → x % 2 ^ k % 2 ^ n ≡ x % 2 ^ n
 mod-low x k n h = let d = le-dest h in ap (λ (j : ℕ). x % 2 ^ j % 2 ^ n) (let e : k ≡ d .0 + n = omega (arith, d .1) in e) ∙ mod-mod-pow x (d .0) n
 
 module _ (ws : List ℕ) (fit : Fit ws) (pos next : ℕ) (after : pos / 64 + 1 < length ws → next ≡ pos / 64 + 1) where
