@@ -12,30 +12,30 @@ use Rattle.broadword.specs.Fields.{flag, word}
 use Rattle.broadword.specs.Places.{last, select}
 use Rattle.broadword.specs.declared.Found.{Found}
 use Rattle.bit_words.specs.Vector.{bitAt, bitOver, wordsFor, invalid, numberWords, putBit, appended}
-use Rattle.bit_vectors.specs.Queries.{ofFound, asked, accessOf, getBitsOf, getWord64Of, rank1Of, numOnesOf, selectBitOf, predecessor1Of, setBitOf, pushBitsOf, fromBitOf}
+use Rattle.bit_vectors.specs.Queries.{ofFound, ifValid, accessOf, getBitsOf, getWord64Of, rank1Of, numOnesOf, selectBitOf, predecessor1Of, setBitOf, pushBitsOf, fromBitOf}
 
 module _ (ws : List ℕ) (len : ℕ) where
-  asked-13 : (a : Answer) → invalid ws len ≡ true → asked ws len a ≡ refused 13
-  unfolding asked
-  asked-13 a e = ap (λ (t : Bool). cond t (refused 13) a) e
+  ifValid-13 : (a : Answer) → invalid ws len ≡ true → ifValid ws len a ≡ refused 13
+  unfolding ifValid
+  ifValid-13 a e = ap (λ (t : Bool). cond t (refused 13) a) e
 
-  asked-ok : (a : Answer) → invalid ws len ≡ false → asked ws len a ≡ a
-  unfolding asked
-  asked-ok a e = ap (λ (t : Bool). cond t (refused 13) a) e
+  ifValid-ok : (a : Answer) → invalid ws len ≡ false → ifValid ws len a ≡ a
+  unfolding ifValid
+  ifValid-ok a e = ap (λ (t : Bool). cond t (refused 13) a) e
 
   -- ---- access
 
   pub access-13 : (pos : ℕ) → invalid ws len ≡ true → accessOf ws len pos ≡ refused 13
   unfolding accessOf
-  access-13 pos e = asked-13 _ e
+  access-13 pos e = ifValid-13 _ e
 
   pub access-none : (pos : ℕ) → invalid ws len ≡ false → len ≤ pos → accessOf ws len pos ≡ none
   unfolding accessOf
-  access-none pos e h = asked-ok _ e ∙ ap (λ (t : Bool). cond t (value (bitAt ws pos)) none) (le-ltb pos len h)
+  access-none pos e h = ifValid-ok _ e ∙ ap (λ (t : Bool). cond t (value (bitAt ws pos)) none) (le-ltb pos len h)
 
   pub access-ok : (pos : ℕ) → invalid ws len ≡ false → pos < len → accessOf ws len pos ≡ value (bitAt ws pos)
   unfolding accessOf
-  access-ok pos e h = asked-ok _ e ∙ ap (λ (t : Bool). cond t (value (bitAt ws pos)) none) (lt-ltb pos len h)
+  access-ok pos e h = ifValid-ok _ e ∙ ap (λ (t : Bool). cond t (value (bitAt ws pos)) none) (lt-ltb pos len h)
 
   -- ---- get_bits
 
@@ -44,22 +44,22 @@ module _ (ws : List ℕ) (len : ℕ) where
 
   pub get-bits-13 : (pos width : ℕ) → invalid ws len ≡ true → getBitsOf ws len pos width ≡ refused 13
   unfolding getBitsOf
-  get-bits-13 pos width e = asked-13 _ e
+  get-bits-13 pos width e = ifValid-13 _ e
 
   pub get-bits-wide : (pos width : ℕ) → invalid ws len ≡ false → 64 < width → getBitsOf ws len pos width ≡ none
   unfolding getBitsOf
-  get-bits-wide pos width e h = asked-ok _ e ∙ ap (λ (t : Bool). cond t (cond (leb (pos + width) len) (value (bits pos width)) none) none) (lt-leb width 64 h)
+  get-bits-wide pos width e h = ifValid-ok _ e ∙ ap (λ (t : Bool). cond t (cond (leb (pos + width) len) (value (bits pos width)) none) none) (lt-leb width 64 h)
 
   pub get-bits-past : (pos width : ℕ) → invalid ws len ≡ false → width ≤ 64 → len < pos + width → getBitsOf ws len pos width ≡ none
   unfolding getBitsOf
   get-bits-past pos width e h l =
-      asked-ok _ e ∙ ap (λ (t : Bool). cond t (cond (leb (pos + width) len) (value (bits pos width)) none) none) (le-leb width 64 h)
+      ifValid-ok _ e ∙ ap (λ (t : Bool). cond t (cond (leb (pos + width) len) (value (bits pos width)) none) none) (le-leb width 64 h)
       ∙ ap (λ (t : Bool). cond t (value (bits pos width)) none) (lt-leb (pos + width) len l)
 
   pub get-bits-ok : (pos width : ℕ) → invalid ws len ≡ false → width ≤ 64 → pos + width ≤ len → getBitsOf ws len pos width ≡ value (bits pos width)
   unfolding getBitsOf
   get-bits-ok pos width e h l =
-      asked-ok _ e ∙ ap (λ (t : Bool). cond t (cond (leb (pos + width) len) (value (bits pos width)) none) none) (le-leb width 64 h)
+      ifValid-ok _ e ∙ ap (λ (t : Bool). cond t (cond (leb (pos + width) len) (value (bits pos width)) none) none) (le-leb width 64 h)
       ∙ ap (λ (t : Bool). cond t (value (bits pos width)) none) (le-leb (pos + width) len l)
 
   -- ---- get_word64
@@ -69,59 +69,59 @@ module _ (ws : List ℕ) (len : ℕ) where
 
   pub get-word64-13 : (pos : ℕ) → invalid ws len ≡ true → getWord64Of ws len pos ≡ refused 13
   unfolding getWord64Of
-  get-word64-13 pos e = asked-13 _ e
+  get-word64-13 pos e = ifValid-13 _ e
 
   pub get-word64-none : (pos : ℕ) → invalid ws len ≡ false → len ≤ pos → getWord64Of ws len pos ≡ none
   unfolding getWord64Of
-  get-word64-none pos e h = asked-ok _ e ∙ ap (λ (t : Bool). cond t (value (word64 pos)) none) (le-ltb pos len h)
+  get-word64-none pos e h = ifValid-ok _ e ∙ ap (λ (t : Bool). cond t (value (word64 pos)) none) (le-ltb pos len h)
 
   pub get-word64-ok : (pos : ℕ) → invalid ws len ≡ false → pos < len → getWord64Of ws len pos ≡ value (word64 pos)
   unfolding getWord64Of
-  get-word64-ok pos e h = asked-ok _ e ∙ ap (λ (t : Bool). cond t (value (word64 pos)) none) (lt-ltb pos len h)
+  get-word64-ok pos e h = ifValid-ok _ e ∙ ap (λ (t : Bool). cond t (value (word64 pos)) none) (lt-ltb pos len h)
 
   -- ---- rank1, num_ones
 
   pub rank1-13 : (pos : ℕ) → invalid ws len ≡ true → rank1Of ws len pos ≡ refused 13
   unfolding rank1Of
-  rank1-13 pos e = asked-13 _ e
+  rank1-13 pos e = ifValid-13 _ e
 
   pub rank1-none : (pos : ℕ) → invalid ws len ≡ false → len < pos → rank1Of ws len pos ≡ none
   unfolding rank1Of
-  rank1-none pos e h = asked-ok _ e ∙ ap (λ (t : Bool). cond t (value (count (bitAt ws) pos)) none) (lt-leb pos len h)
+  rank1-none pos e h = ifValid-ok _ e ∙ ap (λ (t : Bool). cond t (value (count (bitAt ws) pos)) none) (lt-leb pos len h)
 
   pub rank1-ok : (pos : ℕ) → invalid ws len ≡ false → pos ≤ len → rank1Of ws len pos ≡ value (count (bitAt ws) pos)
   unfolding rank1Of
-  rank1-ok pos e h = asked-ok _ e ∙ ap (λ (t : Bool). cond t (value (count (bitAt ws) pos)) none) (le-leb pos len h)
+  rank1-ok pos e h = ifValid-ok _ e ∙ ap (λ (t : Bool). cond t (value (count (bitAt ws) pos)) none) (le-leb pos len h)
 
   pub num-ones-13 : invalid ws len ≡ true → numOnesOf ws len ≡ refused 13
   unfolding numOnesOf
-  num-ones-13 e = asked-13 _ e
+  num-ones-13 e = ifValid-13 _ e
 
   pub num-ones-ok : invalid ws len ≡ false → numOnesOf ws len ≡ value (count (bitAt ws) len)
   unfolding numOnesOf
-  num-ones-ok e = asked-ok _ e
+  num-ones-ok e = ifValid-ok _ e
 
   -- ---- the selects and predecessor1
 
   pub select-13 : (b : Bool) (k : ℕ) → invalid ws len ≡ true → selectBitOf ws len b k ≡ refused 13
   unfolding selectBitOf
-  select-13 b k e = asked-13 _ e
+  select-13 b k e = ifValid-13 _ e
 
   pub select-ok : (b : Bool) (k : ℕ) (a : Found) → invalid ws len ≡ false → select (bitOver b ws) len k ≡ a → selectBitOf ws len b k ≡ ofFound a
   unfolding selectBitOf
-  select-ok b k a e h = asked-ok _ e ∙ ap ofFound h
+  select-ok b k a e h = ifValid-ok _ e ∙ ap ofFound h
 
   pub predecessor1-13 : (pos : ℕ) → invalid ws len ≡ true → predecessor1Of ws len pos ≡ refused 13
   unfolding predecessor1Of
-  predecessor1-13 pos e = asked-13 _ e
+  predecessor1-13 pos e = ifValid-13 _ e
 
   pub predecessor1-past : (pos : ℕ) → invalid ws len ≡ false → len ≤ pos → predecessor1Of ws len pos ≡ none
   unfolding predecessor1Of
-  predecessor1-past pos e h = asked-ok _ e ∙ ap (λ (t : Bool). cond t (ofFound (last (bitAt ws) (pos + 1))) none) (le-ltb pos len h)
+  predecessor1-past pos e h = ifValid-ok _ e ∙ ap (λ (t : Bool). cond t (ofFound (last (bitAt ws) (pos + 1))) none) (le-ltb pos len h)
 
   pub predecessor1-ok : (pos : ℕ) (a : Found) → invalid ws len ≡ false → pos < len → last (bitAt ws) (pos + 1) ≡ a → predecessor1Of ws len pos ≡ ofFound a
   unfolding predecessor1Of
-  predecessor1-ok pos a e h l = asked-ok _ e ∙ ap (λ (t : Bool). cond t (ofFound (last (bitAt ws) (pos + 1))) none) (lt-ltb pos len h) ∙ ap ofFound l
+  predecessor1-ok pos a e h l = ifValid-ok _ e ∙ ap (λ (t : Bool). cond t (ofFound (last (bitAt ws) (pos + 1))) none) (lt-ltb pos len h) ∙ ap ofFound l
 
 -- ---- calls that alter words
 

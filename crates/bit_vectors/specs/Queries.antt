@@ -64,31 +64,31 @@ ofFound found.Nothing = none
 
 module _ (ws : List ℕ) (len : ℕ) where
   -- 13 comes first
-  unfoldable pub asked : Answer → Answer
-  asked a = cond (invalid ws len) (refused 13) a
+  unfoldable pub ifValid : Answer → Answer
+  ifValid a = cond (invalid ws len) (refused 13) a
 
   unfoldable pub accessOf : ℕ → Answer
-  accessOf pos = asked (cond (ltb pos len) (value (bitAt ws pos)) none)
+  accessOf pos = ifValid (cond (ltb pos len) (value (bitAt ws pos)) none)
 
   unfoldable pub getBitsOf : ℕ → ℕ → Answer
-  getBitsOf pos width = asked (cond (leb width 64) (cond (leb (pos + width) len) (value (word 1 (λ i. bitAt ws (pos + i)) width)) none) none)
+  getBitsOf pos width = ifValid (cond (leb width 64) (cond (leb (pos + width) len) (value (word 1 (λ i. bitAt ws (pos + i)) width)) none) none)
 
   -- the 64 bits from pos on: past the used words they are 0
   unfoldable pub getWord64Of : ℕ → Answer
-  getWord64Of pos = asked (cond (ltb pos len) (value (word 1 (λ i. bitAt (take (wordsFor len) ws) (pos + i)) 64)) none)
+  getWord64Of pos = ifValid (cond (ltb pos len) (value (word 1 (λ i. bitAt (take (wordsFor len) ws) (pos + i)) 64)) none)
 
   unfoldable pub rank1Of : ℕ → Answer
-  rank1Of pos = asked (cond (leb pos len) (value (count (bitAt ws) pos)) none)
+  rank1Of pos = ifValid (cond (leb pos len) (value (count (bitAt ws) pos)) none)
 
   unfoldable pub numOnesOf : Answer
-  numOnesOf = asked (value (count (bitAt ws) len))
+  numOnesOf = ifValid (value (count (bitAt ws) len))
 
   -- over the ones (true) or the zeros (false)
   unfoldable pub selectBitOf : Bool → ℕ → Answer
-  selectBitOf b k = asked (ofFound (select (bitOver b ws) len k))
+  selectBitOf b k = ifValid (ofFound (select (bitOver b ws) len k))
 
   unfoldable pub predecessor1Of : ℕ → Answer
-  predecessor1Of pos = asked (cond (ltb pos len) (ofFound (last (bitAt ws) (pos + 1))) none)
+  predecessor1Of pos = ifValid (cond (ltb pos len) (ofFound (last (bitAt ws) (pos + 1))) none)
 
   -- ---- calls that alter words
 

@@ -8,7 +8,7 @@ use Rattle.broadword.specs.Bits.{bit, count}
 use Rattle.broadword.specs.Fields.{word}
 use Rattle.broadword.specs.Places.{last, select}
 use Rattle.bit_words.specs.Vector.{bitAt, bitOver, padding, invalid}
-use Rattle.bit_vectors.specs.Queries.{ofFound, asked, getBitsOf, rank1Of, numOnesOf, selectBitOf, predecessor1Of, setBitOf, pushBitsOf}
+use Rattle.bit_vectors.specs.Queries.{ofFound, ifValid, getBitsOf, rank1Of, numOnesOf, selectBitOf, predecessor1Of, setBitOf, pushBitsOf}
 use Rattle.bit_vectors.specs.Walk.{restOf, walkAt, Step, walkStepOf, nextOf, skip1Of, skip0Of}
 use Rattle.bit_vectors.specs.declared.unary.Unary.{Unary}
 
@@ -67,5 +67,5 @@ rows =
 
 -- every row's answer is the expected one
 pub rows-right : map (λ (r : Row). r .answer) rows ≡ map (λ (r : Row). r .expected) rows
-unfolding rows bit count word last select bitAt bitOver padding invalid asked getBitsOf rank1Of numOnesOf selectBitOf predecessor1Of setBitOf pushBitsOf restOf walkStepOf
+unfolding rows bit count word last select bitAt bitOver padding invalid ifValid getBitsOf rank1Of numOnesOf selectBitOf predecessor1Of setBitOf pushBitsOf restOf walkStepOf
 rows-right = refl

@@ -18,7 +18,7 @@ use Rattle.elias_fano.specs.Steps.{filed, finishedWords}
 use Rattle.elias_fano.specs.Testing.{Fileable}
 use Rattle.elias_fano.specs.declared.finish.Plan.{Plan}
 use Rattle.elias_fano.proofs.Listing as listing
-use Rattle.elias_fano_from_bits.specs.Building.{Countable, lowOf, highOf, Laid, Sizable, filedOnes}
+use Rattle.elias_fano_from_bits.specs.Building.{Countable, lowOf, positionsOf, Laid, Sizable, filedOnes}
 use Rattle.elias_fano_from_bits.specs.FromBits.{onesOf, bitsImage}
 use Rattle.elias_fano_from_bits.proofs.Highs as highs
 use Rattle.elias_fano_from_bits.proofs.Ones as ones
@@ -39,17 +39,17 @@ module _ (ws : List ℕ) (len n : ℕ) (s : Sizes) (q : Sizable ws len n s) wher
   pub low-is : s .«low_len» ≡ lowOf ws len
   low-is = ap (λ (r : Sizes). r .«low_len») (q .sizes)
 
-  pub ones-are : n ≡ length (highOf ws len true)
+  pub ones-are : n ≡ length (positionsOf ws len true)
   ones-are = q .number ∙ sym (highs.ones-many ws len (q .countable))
 
-  pub zeros-are : s .«high_len» - n ≡ length (highOf ws len false)
+  pub zeros-are : s .«high_len» - n ≡ length (positionsOf ws len false)
   zeros-are = ap₂ (λ (r : Sizes) (m : ℕ). r .«high_len» - m) (q .sizes) (q .number) ∙ sym (highs.zeros-many ws len (q .countable))
 
   pub high-enough : n ≤ s .«high_len»
   unfolding highLen
   high-enough = let a = ap (λ (r : Sizes). r .«high_len») (q .sizes) in omega (arith, q .number)
 
-  module _ (c : Bool) (x y : IndexSizes) (zx : Sized (highOf ws len true) x) (zy : Sized (zerosOf c (highWords len (length (onesOf ws len)) (onesOf ws len)) (highLen len (length (onesOf ws len)))) y) where
+  module _ (c : Bool) (x y : IndexSizes) (zx : Sized (positionsOf ws len true) x) (zy : Sized (zerosOf c (highWords len (length (onesOf ws len)) (onesOf ws len)) (highLen len (length (onesOf ws len)))) y) where
     pub plannable : Short x × Short y × (s .«start_len» < 2 ^ 32)
     plannable = listing.plannable len N T (ones.fits ws len (q .countable)) refl c x y zx zy s (q .sizes)
 

@@ -21,7 +21,7 @@ use Rattle.elias_fano.proofs.Parts as parts
 use Rattle.elias_fano.proofs.Spilled as spilled
 use Rattle.elias_fano.specs.Ask.{below}
 use Rattle.elias_fano_queries.proofs.Bucket as bucket
-use Rattle.elias_fano_from_bits.specs.Building.{Countable, lowOf, highOf}
+use Rattle.elias_fano_from_bits.specs.Building.{Countable, lowOf, positionsOf}
 use Rattle.elias_fano_from_bits.specs.FromBits.{onesOf}
 use Rattle.elias_fano_from_bits.proofs.Ones as ones
 
@@ -46,26 +46,26 @@ module _ (ws : List ℕ) (len : ℕ) (ok : Countable ws len) where
 
   -- ---- how many there are
 
-  pub ones-many : length (highOf ws len true) ≡ length (onesOf ws len)
+  pub ones-many : length (positionsOf ws len true) ≡ length (onesOf ws len)
   ones-many = parts.ones-many len n T (ones.rises ws len) (le-refl n)
 
-  pub zeros-many : length (highOf ws len false) ≡ highLen len (length (onesOf ws len)) - length (onesOf ws len)
+  pub zeros-many : length (positionsOf ws len false) ≡ highLen len (length (onesOf ws len)) - length (onesOf ws len)
   zeros-many = parts.zeros-many len n T (ones.rises ws len) (le-refl n)
 
-  pub few : (b : Bool) → length (highOf ws len b) ≤ 50331649
+  pub few : (b : Bool) → length (positionsOf ws len b) ≤ 50331649
   unfolding highLen
   few true = let a = ones-many in let c = ok .most in omega arith
   few false = let a = zeros-many in let c = ok .most in let d = bounds.high-lt len n (ok .small) (ok .some) in omega arith
 
   -- ---- where they stand
 
-  pub one-is : (k : ℕ) → k < length (highOf ws len true) → pos (highOf ws len true) k ≡ getD (onesOf ws len) k 0 / 2 ^ lowOf ws len + k
+  pub one-is : (k : ℕ) → k < length (positionsOf ws len true) → pos (positionsOf ws len true) k ≡ getD (onesOf ws len) k 0 / 2 ^ lowOf ws len + k
   one-is k h = spilled.pos-high len n T (ones.rises ws len) (le-refl n) k (subst (λ (y : ℕ). k < y) ones-many h)
 
-  pub zero-is : (k : ℕ) → k < length (highOf ws len false) → pos (highOf ws len false) k ≡ count (bitOver true ws) (min ((k + 1) * 2 ^ lowOf ws len) len) + k
+  pub zero-is : (k : ℕ) → k < length (positionsOf ws len false) → pos (positionsOf ws len false) k ≡ count (bitOver true ws) (min ((k + 1) * 2 ^ lowOf ws len) len) + k
   unfolding pos
   zero-is k h =
-      let x : ℕ = getD (highOf ws len false) k 0 in
+      let x : ℕ = getD (positionsOf ws len false) k 0 in
       let s = position.place-select (bitOver false W) (bitOver-le false W) (highLen len n) k (subst (λ (y : ℕ). k < y) (position.length-places (bitOver false W) (bitOver-le false W) (highLen len n)) h) in
       let a = bucket.zero-rank len n T (ones.rises ws len) (le-refl n) k x s in
       let b = bucket.after-zeros len n T (ones.rises ws len) (le-refl n) k x s in

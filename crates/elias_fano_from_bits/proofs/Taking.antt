@@ -26,7 +26,7 @@ use Rattle.bit_vectors.specs.declared.unary.Stepped.{Stepped}
 use Rattle.bit_vectors.proofs.Place.{the-type}
 use Rattle.bit_vectors.proofs.Steps as steps
 use Rattle.darray_positions.proofs.Counts.{count-few}
-use Rattle.elias_fano_from_bits.specs.Building.{Countable, Taken, OneTaken}
+use Rattle.elias_fano_from_bits.specs.Building.{Countable, OnesTaken, NextTaken}
 use Rattle.elias_fano_from_bits.specs.FromBits.{onesOf}
 use Rattle.elias_fano_from_bits.proofs.Ones as ones
 
@@ -45,13 +45,13 @@ module _ (ws : List ℕ) (len : ℕ) (ok : Countable ws len) where
   pub begin-room : 0 / 64 < length ws
   begin-room = let a = some-bits in let b = valid ws len (ok .valid) .room in omega arith
 
-  pub begun : (r : Unary) → r ≡ record { position = 0; from = 0; buf = getD ws (0 / 64) 0 / 2 ^ (0 % 64) * 2 ^ (0 % 64) } → Taken ws len 0 r
+  pub begun : (r : Unary) → r ≡ record { position = 0; from = 0; buf = getD ws (0 / 64) 0 / 2 ^ (0 % 64) * 2 ^ (0 % 64) } → OnesTaken ws len 0 r
   unfolding count
-  begun r e = subst⁻¹ (Taken ws len 0) e (record { over = steps.walking ws len 0 (ok .valid) (let a = some-bits in omega arith); before = refl })
+  begun r e = subst⁻¹ (OnesTaken ws len 0) e (record { over = steps.walking ws len 0 (ok .valid) (let a = some-bits in omega arith); before = refl })
 
 -- ---- a step
 
-module _ (ws : List ℕ) (len i : ℕ) (w : Unary) (a : Taken ws len i w) (h : i < length (onesOf ws len)) where
+module _ (ws : List ℕ) (len i : ℕ) (w : Unary) (a : OnesTaken ws len i w) (h : i < length (onesOf ws len)) where
   abbrev f : ℕ → ℕ
   f = bitOver true ws
 
@@ -76,10 +76,10 @@ module _ (ws : List ℕ) (len i : ℕ) (w : Unary) (a : Taken ws len i w) (h : i
       unfolding count
       count-next = let s = ones.has ws len i h in ap (count f) (add-one x) ∙ (let b = s .before in let o = s .one in omega arith)
 
-      pub one-taken : OneTaken ws len i (record { place = y; rest = r .walk })
+      pub one-taken : NextTaken ws len i (record { place = y; rest = r .walk })
       one-taken = record {
         place = here;
-        rest = subst⁻¹ (Taken ws len (suc i)) (ap (λ (z : Step). z .walk) is-step) (record {
+        rest = subst⁻¹ (OnesTaken ws len (suc i)) (ap (λ (z : Step). z .walk) is-step) (record {
           over = record { ok = a .over .ok; behind = omega arith; near = le-refl (x + 1); rest = refl };
           before = count-next;
         });

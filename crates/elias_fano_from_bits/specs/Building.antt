@@ -38,8 +38,8 @@ abbrev pub lowOf : List ℕ → ℕ → ℕ
 lowOf ws len = lowLen len (length (onesOf ws len))
 
 -- the positions of the high bits of the record: of its ones (true) or zeros (false)
-abbrev pub highOf : List ℕ → ℕ → Bool → List ℕ
-highOf ws len b = highPositions len (length (onesOf ws len)) b (onesOf ws len)
+abbrev pub positionsOf : List ℕ → ℕ → Bool → List ℕ
+positionsOf ws len b = highPositions len (length (onesOf ws len)) b (onesOf ws len)
 
 -- ---- positions of the high bits, found in the source
 
@@ -57,13 +57,13 @@ Upto false l m k = m .place ≤ (k + 1) * 2 ^ l
 pub record Seekable (ws : List ℕ) (len : ℕ) (b : Bool) (l k : ℕ) (m : Mark) : Type 0 where
   pub countable : Countable ws len
   pub low : l ≡ lowOf ws len
-  pub there : k < length (highOf ws len b)
+  pub there : k < length (positionsOf ws len b)
   pub marked : Marked ws len m
   pub upto : Upto b l m k
 
 -- the position with the number k, and a mark to go on from
 pub record Seen (ws : List ℕ) (len : ℕ) (b : Bool) (l k : ℕ) (r : HighPlace) : Type 0 where
-  pub at : r .at ≡ pos (highOf ws len b) k
+  pub at : r .at ≡ pos (positionsOf ws len b) k
   pub marked : Marked ws len (r .mark)
   pub upto : Upto b l (r .mark) k
 
@@ -81,14 +81,14 @@ pub record Sizable (ws : List ℕ) (len n : ℕ) (s : Sizes) : Type 0 where
 -- ---- filing
 
 -- the walk has taken the first i ones
-pub record Taken (ws : List ℕ) (len i : ℕ) (w : Unary) : Type 0 where
+pub record OnesTaken (ws : List ℕ) (len i : ℕ) (w : Unary) : Type 0 where
   pub over : Walking ws len w
   pub before : count (bitOver true ws) (w .from) ≡ i
 
 -- the one with the number i, and the walk after it
-pub record OneTaken (ws : List ℕ) (len i : ℕ) (r : One) : Type 0 where
+pub record NextTaken (ws : List ℕ) (len i : ℕ) (r : One) : Type 0 where
   pub place : r .place ≡ getD (onesOf ws len) i 0
-  pub rest : Taken ws len (suc i) (r .rest)
+  pub rest : OnesTaken ws len (suc i) (r .rest)
 
 -- k words are enough for the start of the record
 pub record Writing (ws : List ℕ) (len n : ℕ) (s : Sizes) (k : ℕ) : Type 0 where

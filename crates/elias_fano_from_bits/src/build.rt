@@ -14,7 +14,7 @@ ghost use Rattle.elias_fano.specs.Finishing.{zerosOf};
 ghost use Rattle.elias_fano.specs.Made.{builtAnswer};
 ghost use Rattle.elias_fano_words.specs.Image.{highWords};
 ghost use Rattle.elias_fano_words.specs.Sizes.{highLen};
-ghost use Rattle.elias_fano_from_bits.specs.Building.{Countable, Laid, Sizable, Taken, OneTaken, Writing, Zeroed, filedOnes, Ready, Tests};
+ghost use Rattle.elias_fano_from_bits.specs.Building.{Countable, Laid, Sizable, OnesTaken, NextTaken, Writing, Zeroed, filedOnes, Ready, Tests};
 ghost use Rattle.elias_fano_from_bits.specs.FromBits.{onesOf, bitsImage, fromBitsOf};
 use crate::measure::sizes_over;
 use bit_vectors::Place;
@@ -88,8 +88,8 @@ fn plan(words: &[u64], len: usize, n: usize, s: Sizes, rank: bool, table: &[u8; 
 
 // The next one, which there is.
 fn take_one(words: &[u64], len: usize, i: usize, w: Unary, places: &[u8; 64]) -> One
-    requires { ⌜ (Taken (now words) len i w × (i < length (onesOf (now words) len)) × Debruijn64 (now places)) ⌝ }
-    ensures { λ r. ⌜ OneTaken (now (words .entry)) len i r ⌝ }
+    requires { ⌜ (OnesTaken (now words) len i w × (i < length (onesOf (now words) len)) × Debruijn64 (now places)) ⌝ }
+    ensures { λ r. ⌜ NextTaken (now (words .entry)) len i r ⌝ }
 {
     let s = next_within(words, len, w, places);
     let found = s.place;

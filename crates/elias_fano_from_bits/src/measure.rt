@@ -12,7 +12,7 @@ ghost use Rattle.broadword.specs.Places.{SelectInByte};
 ghost use Rattle.bit_words.specs.Vector.{wordsFor, bitOver};
 ghost use Rattle.darray.specs.Sizes.{Sized};
 ghost use Rattle.darray_positions.specs.Index.{before};
-ghost use Rattle.elias_fano_from_bits.specs.Building.{Countable, lowOf, highOf, Marked, Seekable, Seen};
+ghost use Rattle.elias_fano_from_bits.specs.Building.{Countable, lowOf, positionsOf, Marked, Seekable, Seen};
 use bit_words::WORD_LEN;
 use bit_words::find_within;
 use bit_words::words_for;
@@ -131,8 +131,8 @@ fn overflow_of(
     n: usize,
     table: &[u8; 2048],
 ) -> usize
-    requires { ⌜ (Countable (now words) len × (l ≡ lowOf (now words) len) × (n ≡ length (highOf (now words) len «over_one»)) × SelectInByte (now table)) ⌝ }
-    ensures { λ r. ⌜ r ≡ before (highOf (now (words .entry)) len «over_one») ((n + 1023) / 1024) ⌝ }
+    requires { ⌜ (Countable (now words) len × (l ≡ lowOf (now words) len) × (n ≡ length (positionsOf (now words) len «over_one»)) × SelectInByte (now table)) ⌝ }
+    ensures { λ r. ⌜ r ≡ before (positionsOf (now (words .entry)) len «over_one») ((n + 1023) / 1024) ⌝ }
 {
     let blocks = (n + (BLOCK_LEN - 1)) / BLOCK_LEN;
     let mut overflow: usize = 0;
@@ -161,8 +161,8 @@ pub fn sizes_over(
     n: usize,
     table: &[u8; 2048],
 ) -> Sizes
-    requires { ⌜ (Countable (now words) len × (l ≡ lowOf (now words) len) × (n ≡ length (highOf (now words) len «over_one»)) × SelectInByte (now table)) ⌝ }
-    ensures { λ r. ⌜ Sized (highOf (now (words .entry)) len «over_one») r ⌝ }
+    requires { ⌜ (Countable (now words) len × (l ≡ lowOf (now words) len) × (n ≡ length (positionsOf (now words) len «over_one»)) × SelectInByte (now table)) ⌝ }
+    ensures { λ r. ⌜ Sized (positionsOf (now (words .entry)) len «over_one») r ⌝ }
 {
     sizes_by(n, overflow_of(words, len, l, over_one, n, table))
 }

@@ -10,7 +10,7 @@ use lib.Seq.{take-all}
 use Rattle.bit_words.proofs.Runs.{Fit}
 use Rattle.elias_fano_words.specs.Times.{lastOf}
 use Rattle.elias_fano.proofs.Listing as listing
-use Rattle.elias_fano_from_bits.specs.Building.{Taken}
+use Rattle.elias_fano_from_bits.specs.Building.{OnesTaken}
 use Rattle.elias_fano_from_bits.specs.FromBits.{onesOf}
 use Rattle.elias_fano_from_bits.proofs.Filing as filing
 use Rattle.elias_fano_from_bits.proofs.Filing.{filedFirst}
@@ -21,7 +21,7 @@ use Rattle.elias_fano_from_bits.proofs.build.file_all.Tie as tie
 
 abbrev Inv-loop : tie.InvT-loop
 Inv-loop words len n s places buffer₀ w₀ last₀ i₀ buffer w last i =
-    (i ≤ n) × (length buffer ≡ length buffer₀) × (buffer ≡ filedFirst words len buffer₀ i) × Taken words len i w × (last ≡ lastOf (take i (onesOf words len)))
+    (i ≤ n) × (length buffer ≡ length buffer₀) × (buffer ≡ filedFirst words len buffer₀ i) × OnesTaken words len i w × (last ≡ lastOf (take i (onesOf words len)))
 
 abbrev μ-loop : tie.MeasureT-loop
 μ-loop words len n s places buffer₀ w₀ last₀ i₀ buffer w last i = n - i
@@ -76,7 +76,7 @@ loop-again c =
       omega (arith, h),
       ap length f ∙ listing.length-held (s .args .len) (length (onesOf ws (s .args .len))) (onesOf ws (s .args .len)) (ones.fits ws (s .args .len) (z .countable)) refl (s .args .buffer .now) fw (s .pre .0 .room) (take (l .i + 1) (onesOf ws (s .args .len))),
       f,
-      subst⁻¹ (λ (k : ℕ). Taken ws (s .args .len) k (c .before .before .before .before .before .take-one .result .rest)) (add-one (l .i)) (t .rest),
+      subst⁻¹ (λ (k : ℕ). OnesTaken ws (s .args .len) k (c .before .before .before .before .before .take-one .result .rest)) (add-one (l .i)) (t .rest),
       filing.last-next ws (s .args .len) (z .countable) (s .args .n) (z .number) (s .args .buffer .now) fw (s .pre .0 .room) (l .i) h _ (t .place) ∙ ap (λ (k : ℕ). lastOf (take k (onesOf ws (s .args .len)))) e,
     )
 

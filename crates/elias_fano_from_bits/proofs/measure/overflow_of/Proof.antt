@@ -10,7 +10,7 @@ use Rattle.darray_positions.specs.Index.{before}
 use Rattle.darray_positions.proofs.Index as index
 use Rattle.elias_fano_words.specs.Image.{highWords}
 use Rattle.elias_fano_words.specs.Sizes.{highLen}
-use Rattle.elias_fano_from_bits.specs.Building.{highOf, Marked, Upto}
+use Rattle.elias_fano_from_bits.specs.Building.{positionsOf, Marked, Upto}
 use Rattle.elias_fano_from_bits.specs.FromBits.{onesOf}
 use Rattle.elias_fano_from_bits.proofs.Highs as highs
 use Rattle.elias_fano_from_bits.proofs.Marks as marks
@@ -19,7 +19,7 @@ use Rattle.elias_fano_from_bits.proofs.measure.overflow_of.Tie as tie
 
 abbrev Inv-loop : tie.InvT-loop
 Inv-loop words len l over-one n table blocks overflow₀ from₀ j₀ overflow from j =
-    (j ≤ blocks) × (overflow ≡ before (highOf words len over-one) j) × Marked words len from × Upto over-one l from (1024 * j)
+    (j ≤ blocks) × (overflow ≡ before (positionsOf words len over-one) j) × Marked words len from × Upto over-one l from (1024 * j)
 
 abbrev μ-loop : tie.MeasureT-loop
 μ-loop words len l over-one n table blocks overflow₀ from₀ j₀ overflow from j = blocks - j
@@ -41,7 +41,7 @@ add-blocks c = let a = few (c .before) in omega arith
 loop-holds : tie.Need-loop-holds Inv-loop μ-loop
 loop-holds c =
     let s = c .before in
-    (omega arith, sym (index.before-none (highOf (s .args .words .now) (s .args .len) (s .args .over-one))), marks.first-mark (s .args .words .now) (s .args .len), marks.first-upto (s .args .over-one) (s .args .l) _)
+    (omega arith, sym (index.before-none (positionsOf (s .args .words .now) (s .args .len) (s .args .over-one))), marks.first-mark (s .args .words .now) (s .args .len), marks.first-upto (s .args .over-one) (s .args .l) _)
 
 mul-k : tie.Need-mul-k Inv-loop μ-loop
 mul-k c = let h = there c in let a = few (c .before .before .before) in omega arith
@@ -96,12 +96,12 @@ spilled-requires c κs =
 -- the block's share is added
 next-before : (c : tie.After-spilled Inv-loop μ-loop)
     → c .before .before .before .before .before .before .loop .overflow + c .spilled .result
-    ≡ before (highOf (c .before .before .before .before .before .before .before .before .args .words .now) (c .before .before .before .before .before .before .before .before .args .len) (c .before .before .before .before .before .before .before .before .args .over-one))
+    ≡ before (positionsOf (c .before .before .before .before .before .before .before .before .args .words .now) (c .before .before .before .before .before .before .before .before .args .len) (c .before .before .before .before .before .before .before .before .args .over-one))
     (suc (c .before .before .before .before .before .before .loop .j))
 next-before c =
     let s = c .before .before .before .before .before .before .before .before in
     let l = c .before .before .before .before .before .before .loop in
-    let P = highOf (s .args .words .now) (s .args .len) (s .args .over-one) in
+    let P = positionsOf (s .args .words .now) (s .args .len) (s .args .over-one) in
     highs.next-before P (l .j) _ _ _ (c .before .before .before .before .block-size .ensures ∙ ap (λ (y : ℕ). min 1024 (y - 1024 * l .j)) (s .pre .2))
     (c .before .before .before .high-place .ensures .at) (c .before .high-place2 .ensures .at) _ _ (l .inv .1) (c .spilled .ensures)
 
@@ -109,7 +109,7 @@ add-overflow : tie.Need-add-overflow Inv-loop μ-loop
 add-overflow c =
     let s = c .before .before .before .before .before .before .before .before in
     let a = next-before c in
-    let b = index.before-le (highOf (s .args .words .now) (s .args .len) (s .args .over-one)) (suc (c .before .before .before .before .before .before .loop .j)) in
+    let b = index.before-le (positionsOf (s .args .words .now) (s .args .len) (s .args .over-one)) (suc (c .before .before .before .before .before .before .loop .j)) in
     let d = few s in
     omega (arith, s .pre .2)
 
@@ -127,7 +127,7 @@ loop-again c =
     let h = there (c .before .before .before .before .before .before) in
     let q = c .before .before .high-place2 .ensures in (
       omega (arith, c .before .before .before .before .before .before .loop-test .taken),
-      next-before (c .before) ∙ ap (before (highOf (s .args .words .now) (s .args .len) (s .args .over-one))) (sym (add-one (l .j))),
+      next-before (c .before) ∙ ap (before (positionsOf (s .args .words .now) (s .args .len) (s .args .over-one))) (sym (add-one (l .j))),
       q .marked,
       marks.upto-more (s .args .over-one) (s .args .l) (c .before .before .high-place2 .result .mark) (1024 * l .j + (c .before .before .before .before .before .block-size .result - 1)) (1024 * (l .j + 1)) (omega arith) (q .upto),
     )
@@ -136,7 +136,7 @@ returns : tie.Need-returns Inv-loop μ-loop
 returns c =
     let s = c .before .before .before in
     let l = c .before .loop in
-    l .inv .1 ∙ ap (before (highOf (s .args .words .now) (s .args .len) (s .args .over-one))) (let e : l .j ≡ (s .args .n + 1023) / 1024 = omega (arith, c .loop-test .left, l .inv .0) in e)
+    l .inv .1 ∙ ap (before (positionsOf (s .args .words .now) (s .args .len) (s .args .over-one))) (let e : l .j ≡ (s .args .n + 1023) / 1024 = omega (arith, c .loop-test .left, l .inv .0) in e)
 
 pub overflow-of-spec : {M : Type 1} → statement M
 overflow-of-spec = tie.close (tie.spec Inv-loop μ-loop sub-blocks add-blocks loop-holds mul-k block-size-requires high-place-requires sub-high-place add-high-place high-place-requires-2 spilled-requires add-overflow add-j loop-less loop-again returns)

@@ -5,7 +5,7 @@ use mathlib.Core.Path.{subst⁻¹}
 use native.Mathlib.Omega.{arith}
 use Rattle.darray.specs.Sizes.{Sized}
 use Rattle.darray.proofs.Building.{by-sized}
-use Rattle.elias_fano_from_bits.specs.Building.{highOf}
+use Rattle.elias_fano_from_bits.specs.Building.{positionsOf}
 use Rattle.elias_fano_from_bits.proofs.Highs as highs
 use Rattle.elias_fano_from_bits.proofs.measure.sizes_over.Statement.{statement}
 use Rattle.elias_fano_from_bits.proofs.measure.sizes_over.Tie as tie
@@ -19,7 +19,7 @@ sizes-by-requires c κs = let s = c .before .before in let a = highs.few (s .arg
 returns : tie.Need-returns
 returns c =
     let s = c .before .before .before in
-    let P = highOf (s .args .words .now) (s .args .len) (s .args .over-one) in
+    let P = positionsOf (s .args .words .now) (s .args .len) (s .args .over-one) in
     subst⁻¹ (Sized P) (c .sizes-by .ensures) (by-sized P _ _ (s .pre .2) (c .before .overflow-of .ensures))
 
 pub sizes-over-spec : {M : Type 1} → statement M
