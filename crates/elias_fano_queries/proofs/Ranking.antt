@@ -141,20 +141,25 @@ module _ (i : List ℕ) (p : Parts) (o : IsOpen i p) (v : ℕ) where
               let d = lt-of-not-le g in
               stop-low x y refl ey (leb-false y x (flag-zero (leb y x) (omega arith)))
 
-    -- the last is not below, or is, and the bit before it is not set
-    pub at-most-one : (r b : ℕ) → 2 ≤ e → Stays v T e r → b ≡ bitAt (highPart i p) (h + (e - 2)) → bitAnd r b ≡ 0 → e - r ≡ below v T
-    at-most-one r b two s eb z = go (decLt r 1)
+    -- of the two bits before the end one is not set: the last value alone decides
+    pub at-most-one : (a b r : ℕ) → 2 ≤ e → a ≡ bitAt (highPart i p) (h + (e - 1)) → b ≡ bitAt (highPart i p) (h + (e - 2)) → bitAnd a b ≡ 0 → Stays v T e r → e - r ≡ below v T
+    at-most-one a b r two ea eb z s = go (decLt r 1) (decLt a 1)
       where
-        go : Dec (r < 1) → e - r ≡ below v T
-        go (yes g) = let a = s .stop (omega arith) in omega arith
-        go (no g) =
+        go : Dec (r < 1) → Dec (a < 1) → e - r ≡ below v T
+        go (yes g) _ = let o = s .stop (omega arith) in omega arith
+        go (no g) (yes f) =
+            let w = s .back (omega (arith, s .bit, lt-of-not-le g)) in
+            let o = stop-zero e (omega arith) begins (le-refl e) (sym ea ∙ (let n : a ≡ 0 = omega arith in n)) in
+            omega arith
+        go (no g) (no f) =
             let d = lt-of-not-le g in
             let hr = s .bit in
-            let hb : b ≤ 1 = subst⁻¹ (λ (n : ℕ). n ≤ 1) eb (bitAt-le (highPart i p) (h + (e - 2))) in
-            let m = and-bits r b hr hb in
             let w = s .back (omega arith) in
-            let q : h + (e - 2) ≡ h + (e - 1 - 1) = omega arith in
-            let o = stop-zero (e - 1) (omega arith) w (omega arith) (ap (bitAt (highPart i p)) (sym q) ∙ sym eb ∙ (let n : b ≡ 0 = omega arith in n)) in
+            let ha : a ≤ 1 = subst⁻¹ (λ (n : ℕ). n ≤ 1) ea (bitAt-le (highPart i p) (h + (e - 1))) in
+            let hb : b ≤ 1 = subst⁻¹ (λ (n : ℕ). n ≤ 1) eb (bitAt-le (highPart i p) (h + (e - 2))) in
+            let m = and-bits a b ha hb in
+            let k : h + (e - 2) ≡ h + (e - 1 - 1) = omega arith in
+            let o = stop-zero (e - 1) (omega arith) w (omega arith) (ap (bitAt (highPart i p)) (sym k) ∙ sym eb ∙ (let n : b ≡ 0 = omega (arith, lt-of-not-le f) in n)) in
             omega arith
 
     -- ---- halving: the value in the middle

@@ -167,8 +167,8 @@ fn last_from(image: &[u64], p: Parts, val: u64, end: usize) -> u64
     high_bit(image, p, h + (end - 1)) & from_low(image, p, end - 1, low)
 }
 
-// How many values are below val, which is below the universe. Few buckets hold two values that are not: only where the bit before the last one is
-// set as well are they looked at one by one.
+// How many values are below val, which is below the universe. Few buckets hold two values: only where the two bits before the bucket's end are set is
+// more than its last value looked at, and only then, one by one or by halving.
 pub fn rank_within(image: &[u64], p: Parts, val: u64, table: &[u8; 2048]) -> usize
     requires { ⌜ (Rankable (now image) p (now table) × (val < p .universe)) ⌝ }
     ensures { λ r. ⌜ r ≡ below val (times (now (image .entry))) ⌝ }
@@ -176,9 +176,9 @@ pub fn rank_within(image: &[u64], p: Parts, val: u64, table: &[u8; 2048]) -> usi
     let h = (val >> p.low_len) as usize;
     let end = count_upto(image, p, h, table);
     if end >= 2 {
-        let last = last_from(image, p, val, end);
+        let last = high_bit(image, p, h + (end - 1));
         if last & high_bit(image, p, h + (end - 2)) == 0 {
-            return end - last as usize;
+            return end - last_from(image, p, val, end) as usize;
         }
     }
     rank_from(image, p, val, end, table)
