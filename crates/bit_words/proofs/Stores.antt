@@ -144,7 +144,7 @@ fit-take (suc n) [] fit i = lit< tt
 fit-take (suc n) (w ∷ ws) fit zero = fit 0
 fit-take (suc n) (w ∷ ws) fit (suc i) = fit-take n ws (λ j. fit (suc j)) i
 
-fit-drop : (n : ℕ) (ws : List ℕ) → Fit ws → Fit (drop n ws)
+pub fit-drop : (n : ℕ) (ws : List ℕ) → Fit ws → Fit (drop n ws)
 fit-drop n ws fit i = subst⁻¹ (λ (y : ℕ). y < 2 ^ 64) (getD-drop n ws i 0) (fit (n + i))
 
 -- the words M, between A and C

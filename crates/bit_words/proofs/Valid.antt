@@ -1,11 +1,11 @@
 -- The cases of `invalid`, and what a vector that is not invalid has. Assumes nothing.
-use mathlib.Core.Path.{_≡_, refl, sym, _∙_}
+use mathlib.Core.Path.{_≡_, sym, _∙_}
 use mathlib.Core.List.{List}
-use mathlib.Core.Bool.{Bool, true, false, not}
+use mathlib.Core.Bool.{true, false, not}
 use Prim.Native.Nat.{ℕ, _/_, _%_, _^_, _≤_, _<_}
 use native.Mathlib.Decide.{decLe}
 use native.Mathlib.Nat.{lt-of-not-le}
-use borrow.Author.Tests.{le-ltb, lt-ltb, eq-eqb, ne-eqb, eqb-true}
+use borrow.Author.Tests.{le-ltb, lt-ltb, eq-eqb, ne-eqb, eqb-true, not-false}
 use lib.Dec.{eqb}
 use lib.ListN.{length, getD}
 use Rattle.broadword.proofs.Truth.{true-false}
@@ -28,10 +28,6 @@ module _ (ws : List ℕ) (len : ℕ) where
 pub record Valid (ws : List ℕ) (len : ℕ) : Type 0 where
   pub room : wordsFor len ≤ length ws
   pub clear : (len % 64 ≡ 0 → ⊥) → getD ws (len / 64) 0 / 2 ^ (len % 64) ≡ 0
-
-not-false : (t : Bool) → not t ≡ false → t ≡ true
-not-false true e = refl
-not-false false e = sym e
 
 pub valid : (ws : List ℕ) (len : ℕ) → invalid ws len ≡ false → Valid ws len
 valid ws len e = record { room = enough (decLe (wordsFor len) (length ws)); clear = λ n. zero n (decLe (wordsFor len) (length ws)) }

@@ -1,7 +1,6 @@
 -- Bytes below 128, compared all at once: 128 + y - x has its top bit set where x is at most y. Assumes nothing.
 use borrow.Author.Tests.{le-leb, lt-leb}
 use mathlib.Core.Path.{_≡_, refl, sym, ap, ap₂, _∙_}
-use mathlib.Core.Bool.{Bool, true, false}
 use Prim.Native.Nat.{ℕ, _+_, _-_, _*_, _/_, _%_, _^_, _≤_, _<_}
 use native.Mathlib.Nat.{le-trans, le-of-eq, lt-of-not-le, lt-of-le-of-lt, lt-of-lt-of-le, mod-eq-of-lt, div-eq-of-lt}
 use native.Mathlib.Decide.{decLe}
@@ -10,6 +9,7 @@ use lib.Dec.{leb, lit<, lit≤}
 use lib.Bits.{bitAnd, bitOr, bitXor, and-high, and-mask, and-le-l, xor-lt, xor-shr, xor-zero-r, or-shifted-r}
 use Rattle.broadword.specs.Fields.{digit, word, flag, LowBytes}
 use Rattle.broadword.proofs.Bytes.{msbs}
+use Rattle.broadword.proofs.Truth.{flag-lt}
 use Rattle.broadword.proofs.Fields.{bytes, digit-lt, masked, word-mono, word-or, word-and, word-xor, word-sub, word-same, word-shr-exact}
 
 lows : word 8 (λ i. 0x7f) 8 ≡ 0x7f7f_7f7f_7f7f_7f7f
@@ -27,10 +27,6 @@ top-flag a b ha hb = go (decLe a b)
     go : Dec (a ≤ b) → (128 + b - a) / 2 ^ 7 ≡ flag (leb a b)
     go (yes l) = let q : (128 + b - a) / 128 ≡ 1 = omega arith in q ∙ ap flag (sym (le-leb a b l))
     go (no g) = let l : b < a = lt-of-not-le g in let q : (128 + b - a) / 128 ≡ 0 = omega arith in q ∙ ap flag (sym (lt-leb a b l))
-
-flag-lt : (t : Bool) → flag t < 2
-flag-lt true = lit< tt
-flag-lt false = lit< tt
 
 module _ (x y : ℕ) (hx : x < 2 ^ 64) (hy : y < 2 ^ 64) (lx : LowBytes x) (ly : LowBytes y) where
   abbrev a : ℕ → ℕ

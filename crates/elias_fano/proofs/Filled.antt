@@ -14,6 +14,7 @@ use Rattle.broadword.proofs.Truth.{true-and}
 use Rattle.bit_words.specs.Vector.{wordsFor, numberWords}
 use Rattle.bit_words.proofs.Overwrite.{length-numberWords}
 use Rattle.bit_words.proofs.Runs.{Fit}
+use Rattle.bit_words.proofs.Stores.{fit-drop}
 use Rattle.elias_fano_words.specs.Sizes.{lowLen, highLen, startLen}
 use Rattle.elias_fano_words.specs.Image.{highFrom, highWords, lowNumber, image}
 use Rattle.elias_fano_words.specs.Times.{lastOf, bitWords, timesIn, holds}
@@ -38,11 +39,6 @@ pub fit-zeros : (k : ℕ) → Fit (replicate k 0)
 fit-zeros zero i = omega arith
 fit-zeros (suc k) zero = omega arith
 fit-zeros (suc k) (suc i) = fit-zeros k i
-
-pub fit-drop : (k : ℕ) (w : List ℕ) → Fit w → Fit (drop k w)
-fit-drop zero w f = f
-fit-drop (suc k) [] f = λ i. omega arith
-fit-drop (suc k) (x ∷ w) f = fit-drop k w (λ i. f (suc i))
 
 -- settings in their limits, and words for their start
 pub record Room (u n : ℕ) (lent : List ℕ) : Type 0 where

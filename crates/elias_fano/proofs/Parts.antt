@@ -8,8 +8,8 @@ use native.Mathlib.Omega.{arith}
 use lib.ListN.{length, take, drop, length-append}
 use lib.Seq.{take-at, drop-at, drop-append-add}
 use Rattle.broadword.specs.Bits.{count}
-use Rattle.broadword.specs.Fields.{flag}
 use Rattle.broadword.proofs.Count.{count-same}
+use Rattle.broadword.proofs.Truth.{flag-le}
 use Rattle.bit_words.specs.Vector.{bitAt, bitOver, wordsFor, numberWords}
 use Rattle.bit_words.proofs.Overwrite.{length-numberWords}
 use Rattle.bit_words.proofs.Runs.{bitAt-le, bitOver-le}
@@ -58,10 +58,6 @@ module _ (u n : ℕ) (T : List ℕ) (r : rising u 0 T ≡ true) (few : length T 
 length-cond : (c : Bool) (A : List ℕ) → length (cond c A []) ≡ cond c (length A) 0
 length-cond true A = refl
 length-cond false A = refl
-
-flag-le : (c : Bool) → flag c ≤ 1
-flag-le true = omega arith
-flag-le false = omega arith
 
 none-picked : (c : Bool) (x : ℕ) → c ≡ false → cond c x 0 ≡ 0
 none-picked c x e = rw e

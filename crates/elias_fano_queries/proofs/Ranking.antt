@@ -1,7 +1,7 @@
 -- Rank inside a bucket, step by step: walking back from its end, and halving between its ends. Assumes nothing.
 use mathlib.Core.Path.{_≡_, refl, sym, ap, _∙_, subst⁻¹}
 use mathlib.Core.List.{List}
-use mathlib.Core.Bool.{Bool, true, false, not}
+use mathlib.Core.Bool.{Bool, true, false}
 use Prim.Native.Nat.{ℕ, zero, suc, min, _+_, _-_, _*_, _/_, _%_, _^_, _≤_, _<_}
 use native.Mathlib.Nat.{le-refl, le-of-lt, lt-of-not-le}
 use native.Mathlib.Decide.{decLt}
@@ -12,6 +12,7 @@ use lib.Dec.{leb}
 use lib.ListN.{length, getD}
 use lib.Pow.{split}
 use Rattle.broadword.specs.Fields.{flag}
+use Rattle.broadword.proofs.Truth.{flag-le}
 use Rattle.bit_words.specs.Vector.{bitAt}
 use Rattle.bit_words.proofs.Runs.{bitAt-le}
 use Rattle.elias_fano.specs.declared.image.Parts.{Parts}
@@ -23,11 +24,6 @@ use Rattle.elias_fano.specs.Opening.{Open, highPart}
 use Rattle.elias_fano_queries.proofs.Below as below-law
 use Rattle.elias_fano_queries.proofs.Opened as opened
 use Rattle.elias_fano_queries.proofs.Upper as upper
-
--- a test that was negated
-pub is-true : (b : Bool) → not b ≡ false → b ≡ true
-is-true true e = refl
-is-true false e = sym e
 
 pub is-open : (i : List ℕ) (p : Parts) (t : List ℕ) → Open i p t → IsOpen i p
 is-open i p t o = record { ok = o .ok; parts = o .parts }
@@ -42,10 +38,6 @@ and-bits a b h g =
 pub not-zero : (b : ℕ) → b ≤ 1 → (b ≡ 0 → ⊥) → b ≡ 1
 not-zero zero h g = absurd (g refl)
 not-zero (suc b) h g = omega arith
-
-flag-le : (t : Bool) → flag t ≤ 1
-flag-le true = le-refl 1
-flag-le false = omega arith
 
 flag-one : (t : Bool) → flag t ≡ 1 → t ≡ true
 flag-one true e = refl

@@ -57,7 +57,7 @@ struct One {
 
 // The walk from a number on from which there is no value.
 pub fn ended(k: usize) -> Walk
-    ensures { λ r. ⌜ r .number ≡ k ⌝ }
+    ensures { λ r. ⌜ r ≡ record { number = k; base = 0; rest = 0; lows = 1 } ⌝ }
 {
     Walk {
         number: k,

@@ -54,7 +54,7 @@ pub fn bits_at(words: &[u64], pos: usize) -> u64
 }
 
 // The l bits from pos on.
-pub fn low_from(low: &[u64], l: usize, pos: usize) -> u64
+fn low_from(low: &[u64], l: usize, pos: usize) -> u64
     requires { ⌜ ((l < 64) × (pos + l ≤ length (now low) * 64)) ⌝ }
     ensures { λ r. ⌜ r ≡ word 1 (λ i. bitAt (now (low .entry)) (pos + i)) l ⌝ }
 {

@@ -1,5 +1,5 @@
 -- The ends of a block of prefix sums, and what it spills. Assumes nothing.
-use mathlib.Core.Path.{_≡_, refl, sym, ap, ap₂, _∙_, subst}
+use mathlib.Core.Path.{_≡_, sym, ap, ap₂, _∙_, subst}
 use mathlib.Core.List.{List}
 use mathlib.Core.Bool.{true, cond}
 use Prim.Native.Nat.{ℕ, suc, _+_, _-_, _*_, _/_, _^_, _≤_, _<_, min}
@@ -10,7 +10,6 @@ use lib.Dec.{leb}
 use lib.ListN.{length, getD, take}
 use lib.Pow.{shr-mono}
 use lib.Seq.{take-all}
-use Rattle.broadword.specs.Bits.{count}
 use Rattle.darray_positions.specs.Index.{spill, before}
 use Rattle.darray_positions.proofs.Index as index
 use Rattle.elias_fano_words.specs.Image.{highPositions}
@@ -101,10 +100,6 @@ module _ (A : List ℕ) (j : ℕ) (h : 1024 * j < length A) (l′ : ℕ) (el : l
   share-is = ap₂ (λ (x y : ℕ). cond (leb 65536 (last / 2 ^ x + (1024 * j + (y - 1)) - (first / 2 ^ x + 1024 * j))) y 0) el ez ∙ spill-is A j h first last ef ee′
 
 -- ---- what the blocks before j spill
-
-pub before-none : (P : List ℕ) → before P 0 ≡ 0
-unfolding before count
-before-none P = refl
 
 pub before-small : (A : List ℕ) (j : ℕ) → before (highPositions (suc (sum A)) (length A) true (sums A)) j ≤ length A
 before-small A j =

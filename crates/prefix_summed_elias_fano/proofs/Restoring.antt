@@ -12,6 +12,7 @@ use lib.ListN.{length, getD, take, drop}
 use lib.Seq.{take-append-seam}
 use Rattle.errors.specs.Answer.{Answer, value, none, done, refused, Outcome, leaves, passing}
 use Rattle.elias_fano.specs.Ask.{Question, Delta, Len, nth, gap, ask, query}
+use Rattle.elias_fano.proofs.Answers.{value-inj, refused-value}
 use Rattle.elias_fano.proofs.Images.{image-query}
 use Rattle.prefix_summed_elias_fano.specs.Building.{Summable}
 use Rattle.prefix_summed_elias_fano.specs.Sums.{sum, sums, sumsImage, sliceTest, fromSliceOf, accessOf, lenOf, Restored, ReadsBack}
@@ -74,12 +75,6 @@ none-held = record { access = λ p. sym (ap (λ (b : Bool). cond b (value (getD 
 
 -- ---- whatever the call was given
 
-value-inj : (a b : ℕ) → value a ≡ value b → a ≡ b
-value-inj a b e = cc
-
-not-value : (a b : ℕ) → refused a ≡ value b → ⊥
-not-value a b e = let z : _≡_ {A = ℕ} 0 1 = cc in omega arith
-
 module _ (A w : List ℕ) (k : ℕ) (x : List ℕ) where
   abbrev wrote : Outcome
   wrote = leaves (value (length (sumsImage A))) (sumsImage A ++ drop (length (sumsImage A)) w)
@@ -89,9 +84,9 @@ module _ (A w : List ℕ) (k : ℕ) (x : List ℕ) where
   test a b c = cond a (refused 2) (cond b (refused 12) (cond c (refused 3) done))
 
   by-tests : 0 < length A → (a b c : Bool) → ltb 16777216 (length A) ≡ a → leb (2 ^ 64 - 1) (sum A) ≡ b → passing (test a b c) w wrote ≡ leaves (value k) x → Restored A (take k x)
-  by-tests h true b c ea eb e = absurd (not-value 2 k (ap (λ (o : Outcome). o .answer) e))
-  by-tests h false true c ea eb e = absurd (not-value 12 k (ap (λ (o : Outcome). o .answer) e))
-  by-tests h false false true ea eb e = absurd (not-value 3 k (ap (λ (o : Outcome). o .answer) e))
+  by-tests h true b c ea eb e = absurd (refused-value 2 k (ap (λ (o : Outcome). o .answer) e))
+  by-tests h false true c ea eb e = absurd (refused-value 12 k (ap (λ (o : Outcome). o .answer) e))
+  by-tests h false false true ea eb e = absurd (refused-value 3 k (ap (λ (o : Outcome). o .answer) e))
   by-tests h false false false ea eb e =
       let ok : Summable A = record { some = h; most = ltb-false _ _ ea; small = leb-false _ _ eb } in
       let n = value-inj (length (sumsImage A)) k (ap (λ (o : Outcome). o .answer) e) in

@@ -13,7 +13,7 @@ ghost use Rattle.elias_fano.specs.Accept.{accepted, partsOf, times, ofNumber};
 ghost use Rattle.elias_fano.specs.Ask.{readOut, filled};
 ghost use Rattle.elias_fano.specs.Opening.{Open};
 ghost use Rattle.elias_fano_walk.specs.Walking.{valueStepOf};
-ghost use Rattle.prefix_summed_elias_fano.specs.Items.{itemsOf, ItemsOver, StartsItems, ofItemStep, readItemsOf};
+ghost use Rattle.prefix_summed_elias_fano.specs.Items.{itemsOf, noParts, ItemsOver, StartsItems, ofItemStep, readItemsOf};
 use broadword::debruijn64_table;
 use broadword::select_in_byte_table;
 use elias_fano::image::Number;
@@ -74,7 +74,7 @@ fn sum_before(image: &[u64], p: Parts, k: usize, table: &[u8; 2048]) -> u64
 // The place k of an accepted image, as `begin` of the walk over its values.
 fn begin_items(image: &[u64], p: Parts, k: usize) -> ItemPlace
     requires { ⌜ ((accepted (now image) ≡ true) × (p ≡ partsOf (now image))) ⌝ }
-    ensures { λ r. ⌜ (ItemsOver (now (image .entry)) (r .parts) (r .walk) × (r .walk .values .number ≡ k)) ⌝ }
+    ensures { λ r. ⌜ (ItemsOver (now (image .entry)) (r .parts) (r .walk) × (r .walk .values .number ≡ k) × (r .parts ≡ partsOf (now (image .entry)))) ⌝ }
 {
     let table = select_in_byte_table();
     let before = sum_before(image, p, k, &table);
@@ -87,7 +87,7 @@ fn begin_items(image: &[u64], p: Parts, k: usize) -> ItemPlace
 
 // The place k of no words.
 fn begin_none(k: usize) -> ItemPlace
-    ensures { λ r. ⌜ ((r .parts .«num_pushed» ≡ 0) × (r .walk .values .number ≡ k)) ⌝ }
+    ensures { λ r. ⌜ ((r .parts ≡ noParts) × (r .walk .values .number ≡ k)) ⌝ }
 {
     ItemPlace {
         parts: Parts {

@@ -2,23 +2,18 @@
 -- Assumes nothing.
 use borrow.Author.Needs.{needs}
 use mathlib.Core.Path.{_≡_, ap, ap₂, _∙_}
-use Prim.Native.Nat.{ℕ, _-_, _*_, _%_, _^_, _<_}
+use Prim.Native.Nat.{ℕ, _-_, _*_, _%_, _^_}
 use native.Mathlib.Omega.{arith}
-use mathlib.Core.Bool.{Bool, true, false}
 use lib.Bits.{bitAnd, bitOr}
-use lib.Dec.{lit<}
 use lib.Pow.{shl-exact}
 use Rattle.broadword.specs.Fields.{flag}
+use Rattle.broadword.proofs.Truth.{flag-lt}
 use Rattle.bit_words.proofs.Packed.{one-shl, put}
 use Rattle.bit_words.proofs.with_bit.Statement.{statement}
 use Rattle.bit_words.proofs.with_bit.Tie as tie
 
 shl-result : tie.Need-shl-result
 shl-result c = search needs
-
-flag-lt : (t : Bool) → flag t < 2
-flag-lt true = lit< tt
-flag-lt false = lit< tt
 
 bit-word-requires : tie.Need-bit-word-requires
 bit-word-requires c κs = search needs

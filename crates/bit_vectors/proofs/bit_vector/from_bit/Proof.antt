@@ -2,22 +2,17 @@
 -- Assumes nothing.
 use borrow.Author.Needs.{needs}
 use mathlib.Core.Path.{sym, ap, ap₂, _∙_}
-use Prim.Native.Nat.{ℕ, _/_, _%_, _^_, _≤_}
+use Prim.Native.Nat.{ℕ, _/_, _%_, _^_}
 use native.Mathlib.Omega.{arith}
-use mathlib.Core.Bool.{Bool, true, false}
 use mathlib.Core.List.{List, _++_}
-use lib.Dec.{lit≤}
 use lib.ListN.{replicate, drop, set}
 use Rattle.errors.specs.Answer.{done, leaves}
 use Rattle.broadword.specs.Fields.{flag}
+use Rattle.broadword.proofs.Truth.{flag-le}
 use Rattle.bit_vectors.proofs.Cases as cases
 use Rattle.bit_words.proofs.Packed.{filled, filled-part}
 use Rattle.bit_vectors.proofs.bit_vector.from_bit.Statement.{statement}
 use Rattle.bit_vectors.proofs.bit_vector.from_bit.Tie as tie
-
-flag-le : (t : Bool) → flag t ≤ 1
-flag-le true = lit≤ tt
-flag-le false = lit≤ tt
 
 words-for-requires : tie.Need-words-for-requires
 words-for-requires c κs = search needs

@@ -1,10 +1,10 @@
 -- `elias_fano_queries::neighbours::predecessor_opened` meets its contract.
 -- Assumes nothing.
+use borrow.Author.Tests.{not-false}
 use borrow.Author.Needs.{needs}
 use Prim.Native.Nat.{_+_}
 use native.Mathlib.Omega.{arith}
 use Rattle.elias_fano.proofs.Selecting as selecting
-use Rattle.elias_fano_queries.proofs.Ranking.{is-true}
 use Rattle.elias_fano_queries.proofs.Answering as answering
 use Rattle.elias_fano_queries.proofs.Opened as opened
 use Rattle.elias_fano_queries.proofs.neighbours.predecessor_opened.Statement.{statement}
@@ -26,7 +26,7 @@ returns-3 : tie.Need-returns-3
 returns-3 c = let s = c .before .before .before .before .before .before .before in answering.predecessor-8 (s .args .image .now) (s .pre .ok) (s .args .p) (s .pre .parts) (s .args .val) (c .before .before .before .before .if1 .left) (c .before .before .if2 .left) (c .if3 .taken)
 
 rank-within-requires : tie.Need-rank-within-requires
-rank-within-requires c κs = let s = c .before .before .before .before .before .before .before in (record { opened = s .pre; ranked = is-true _ (c .if3 .left) }, omega (arith, c .before .before .before .before .if1 .left, c .before .before .if2 .left))
+rank-within-requires c κs = let s = c .before .before .before .before .before .before .before in (record { opened = s .pre; ranked = not-false _ (c .if3 .left) }, omega (arith, c .before .before .before .before .if1 .left, c .before .before .if2 .left))
 
 returns-4 : tie.Need-returns-4
 returns-4 c = let s = c .before .before .before .before .before .before .before .before .before in answering.predecessor-none (s .args .image .now) (s .pre .ok) (s .args .p) (s .pre .parts) (s .args .val) (c .before .before .before .before .before .before .if1 .left) (c .before .before .before .before .if2 .left) (c .before .before .if3 .left) _ (c .before .rank-within .ensures) (c .if4 .taken)

@@ -1,9 +1,9 @@
 -- `elias_fano_queries::neighbours::successor_opened` meets its contract.
 -- Assumes nothing.
+use borrow.Author.Tests.{not-false}
 use native.Mathlib.Nat.{le-of-lt}
 use native.Mathlib.Omega.{arith}
 use Rattle.elias_fano.proofs.Selecting as selecting
-use Rattle.elias_fano_queries.proofs.Ranking.{is-true}
 use Rattle.elias_fano_queries.proofs.Answering as answering
 use Rattle.elias_fano_queries.proofs.Opened as opened
 use Rattle.elias_fano_queries.proofs.neighbours.successor_opened.Statement.{statement}
@@ -16,7 +16,7 @@ returns-2 : tie.Need-returns-2
 returns-2 c = let s = c .before .before .before .before .before in answering.successor-8 (s .args .image .now) (s .pre .ok) (s .args .p) (s .pre .parts) (s .args .val) (c .before .before .if1 .left) (c .if2 .taken)
 
 rank-within-requires : tie.Need-rank-within-requires
-rank-within-requires c κs = let s = c .before .before .before .before .before in (record { opened = s .pre; ranked = is-true _ (c .if2 .left) }, c .before .before .if1 .left)
+rank-within-requires c κs = let s = c .before .before .before .before .before in (record { opened = s .pre; ranked = not-false _ (c .if2 .left) }, c .before .before .if1 .left)
 
 returns-3 : tie.Need-returns-3
 returns-3 c = let s = c .before .before .before .before .before .before .before in answering.successor-none (s .args .image .now) (s .pre .ok) (s .args .p) (s .pre .parts) (s .args .val) (c .before .before .before .before .if1 .left) (c .before .before .if2 .left) _ (c .before .rank-within .ensures) (c .if3 .taken)

@@ -1,10 +1,11 @@
 -- `elias_fano_walk::walk::begin` meets its contract.
 -- Assumes nothing.
 use borrow.Author.Needs.{needs}
-use mathlib.Core.Path.{refl}
+use mathlib.Core.Path.{refl, ap}
 use native.Mathlib.Omega.{arith}
 use Rattle.elias_fano.proofs.Accepting.{found}
 use Rattle.elias_fano.proofs.Standing as standing
+use Rattle.elias_fano_walk.specs.declared.walk.Walk.{Walk}
 use Rattle.elias_fano_walk.proofs.Walked as walked
 use Rattle.elias_fano_walk.proofs.walk.begin.Statement.{statement}
 use Rattle.elias_fano_walk.proofs.walk.begin.Tie as tie
@@ -13,7 +14,7 @@ ended-requires : tie.Need-ended-requires
 ended-requires c κs = search needs
 
 returns : tie.Need-returns
-returns c = ((λ h. absurd (omega (arith, c .before .if1 .taken, c .ended .ensures))), c .ended .ensures)
+returns c = let e = ap (λ (w : Walk). w .number) (c .ended .ensures) in ((λ h. absurd (omega (arith, c .before .if1 .taken, e))), e)
 
 one-at-requires : tie.Need-one-at-requires
 one-at-requires c κs = search needs

@@ -34,7 +34,7 @@ add-blocks : tie.Need-add-blocks Inv-loop μ-loop
 add-blocks c = omega (arith, c .before .pre .0 .most)
 
 loop-holds : tie.Need-loop-holds Inv-loop μ-loop
-loop-holds c = (omega arith, sym (block.before-none _), sym sums-law.sum-none)
+loop-holds c = (omega arith, sym (index.before-none _), sym sums-law.sum-none)
 
 mul-k : tie.Need-mul-k Inv-loop μ-loop
 mul-k c = let h = there c in omega (arith, c .before .before .before .pre .0 .most)

@@ -14,7 +14,7 @@ begin-requires : tie.Need-begin-requires
 begin-requires c κs = search needs
 
 returns : tie.Need-returns
-returns c = let s = c .before .before .before .before .before .before in (taking.over-accepted (s .args .image .now) (s .pre .0) (s .args .p) (s .pre .1) (s .args .k) _ _ (c .begin .ensures .0) (c .begin .ensures .1) (c .before .before .sum-before .ensures), c .begin .ensures .1)
+returns c = let s = c .before .before .before .before .before .before in (taking.over-accepted (s .args .image .now) (s .pre .0) (s .args .p) (s .pre .1) (s .args .k) _ _ (c .begin .ensures .0) (c .begin .ensures .1) (c .before .before .sum-before .ensures), c .begin .ensures .1, s .pre .1)
 
 pub begin-items-spec : {M : Type 1} → statement M
 begin-items-spec =

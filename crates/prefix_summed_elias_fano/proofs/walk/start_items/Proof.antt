@@ -24,7 +24,7 @@ enum-known-e : tie.Need-enum-known-e
 enum-known-e c = search needs
 
 returns-2 : tie.Need-returns-2
-returns-2 c = let s = c .before .before .before .before .before .before .before in let o = c .before .before .before .before .«open» in let r = c .begin-items .ensures in taking.starts-opened (s .args .image .now) (c .before .before .before .before .before .if1 .left) (o .result) (o .ensures) (answers.is-open _ _ _ (o .ensures) (c .before .before .p .given .1) .0) (s .args .k) _ (r .0) (r .1)
+returns-2 c = let s = c .before .before .before .before .before .before .before in let o = c .before .before .before .before .«open» in let r = c .begin-items .ensures in taking.starts-opened (s .args .image .now) (c .before .before .before .before .before .if1 .left) (o .result) (o .ensures) (answers.is-open _ _ _ (o .ensures) (c .before .before .p .given .1) .0) (s .args .k) _ (r .0) (r .1) (r .2)
 
 returns-3 : tie.Need-returns-3
 returns-3 c = let s = c .before .before .before .before .before .before in let o = c .before .before .before .«open» in taking.starts-refused (s .args .image .now) (c .before .before .before .before .if1 .left) (o .result) (o .ensures) _ (c .before .e .given .1) (s .args .k)
