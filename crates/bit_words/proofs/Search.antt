@@ -190,6 +190,3 @@ module _ (b : Bool) (ws : List ℕ) (used from k x : ℕ) (is : x ≡ wordOver b
       let a = ahead-count 64 (le-refl 64) (le-of-lt w) in
       let m = count-mono F ((from / 64 + 1) * 64) (from + 64) (omega arith) in
       omega arith
-
-pub some-select : (b : Bool) (ws : List ℕ) (n m : ℕ) → m < count (bitOver b ws) n → (r : Found) → r ≡ select (bitOver b ws) n m → r ≡ Nothing → ⊥
-some-select b ws n m h r er e = let f = select-few (bitOver b ws) (bitOver-le b ws) n n m (sym er ∙ e) in omega arith

@@ -7,13 +7,13 @@ ghost use Prim.Native.Nat.{_+_, _-_, _*_, _/_, _%_, _^_, _<_, _≤_};
 ghost use mathlib.Core.List.{_++_};
 ghost use lib.ListN.{length, getD, take, drop, replicate};
 ghost use Rattle.broadword.specs.Bits.{count};
-ghost use Rattle.broadword.specs.Places.{last, select};
+ghost use Rattle.broadword.specs.Places.{last, select, Debruijn64};
 ghost use Rattle.broadword.specs.declared.Found.the-variants.{At};
 ghost use Rattle.broadword.specs.Fields.{flag, word};
 ghost use Rattle.bit_words.specs.Vector.{bitAt, bitOver, wordsFor, invalid, wordOver, putBit, appended, overwrite};
 ghost use Rattle.bit_words.specs.Inner.{Skipped, Ending, Appendable, Overwritable, Within, placeIn, Findable};
 use broadword::Found;
-use broadword::lsb;
+use broadword::lsb_by;
 use broadword::msb;
 use broadword::popcount;
 use broadword::select_in_word_within;
@@ -214,25 +214,20 @@ pub fn find_within(
     find_by_words(words, used, over_one, table, from, k)
 }
 
-// The place of the first one at the place `from` or after it, which there is, word by word.
-fn first_by_words(words: &[u64], used: usize, table: &[u8; 2048], from: usize) -> usize
-    requires { ⌜ (Findable (now words) used from (now table) × (count (bitOver true (now words)) from < count (bitOver true (now words)) (used * 64))) ⌝ }
+// The place of the first one at the place `from` or after it, which there is: mostly it is one of the 64 bits from there on.
+pub fn first_from(
+    words: &[u64],
+    used: usize,
+    table: &[u8; 2048],
+    places: &[u8; 64],
+    from: usize,
+) -> usize
+    requires { ⌜ (Findable (now words) used from (now table) × Debruijn64 (now places) × (count (bitOver true (now words)) from < count (bitOver true (now words)) (used * 64))) ⌝ }
     ensures { λ r. ⌜ select (bitOver true (now (words .entry))) (used * 64) (count (bitOver true (now (words .entry))) from) ≡ At r ⌝ }
 {
-    match find_from(words, used, true, table, from, 0) {
-        Found::At(place) => place,
-        Found::Nothing => 0,
-    }
-}
-
-// The same: mostly it is one of the 64 bits from there on.
-pub fn first_from(words: &[u64], used: usize, table: &[u8; 2048], from: usize) -> usize
-    requires { ⌜ (Findable (now words) used from (now table) × (count (bitOver true (now words)) from < count (bitOver true (now words)) (used * 64))) ⌝ }
-    ensures { λ r. ⌜ select (bitOver true (now (words .entry))) (used * 64) (count (bitOver true (now (words .entry))) from) ≡ At r ⌝ }
-{
-    match lsb(window(words, used, from)) {
+    match lsb_by(places, window(words, used, from)) {
         Found::At(bit) => from + bit,
-        Found::Nothing => first_by_words(words, used, table, from),
+        Found::Nothing => find_by_words(words, used, true, table, from, 0),
     }
 }
 

@@ -5,6 +5,7 @@ use mathlib.Core.List.{List}
 use mathlib.Core.Bool.{true}
 use Prim.Native.Nat.{ℕ, suc, _+_, _-_, _*_, _≤_, _<_}
 use native.Mathlib.Nat.{lt-of-not-le, lt-of-lt-of-le, le-dest}
+use native.Mathlib.Numerals.{add-one}
 use native.Mathlib.Omega.{arith}
 use lib.ListN.{length}
 use Rattle.broadword.specs.Bits.{count}
@@ -39,6 +40,18 @@ module _ (f : ℕ → ℕ) (bits : (j : ℕ) → f j ≤ 1) (x k : ℕ) (e : cou
       let b = count-suc f y in
       let o = r .one in
       omega arith
+
+-- ---- the place after a one
+
+pub behind-next : (i : List ℕ) (p : Parts) (k x : ℕ) → 0 < k → OneAt i p (k - 1) x → Behind i p k (x + 1)
+unfolding bitOver
+behind-next i p k x h o =
+    let s = selected (bitOver true (highPart i p)) (p .«high_len») (k - 1) x (o .place) in
+    let b : count (bitAt (highPart i p)) x ≡ k - 1 = s .before in
+    let e : bitAt (highPart i p) x ≡ 1 = s .one in
+    let n = count-suc (bitAt (highPart i p)) x in
+    let a = ap (count (bitAt (highPart i p))) (add-one x) in
+    record { opened = record { ok = o .ok; parts = o .parts }; before = omega arith; upto = omega (arith, s .within) }
 
 -- ---- of an opened image
 

@@ -5,14 +5,15 @@
 ghost use mathlib.Core.Path.{_≡_};
 ghost use Prim.Native.Nat.{_-_, _<_};
 ghost use lib.ListN.{length, getD};
-ghost use Rattle.broadword.specs.Places.{SelectInByte};
+ghost use Rattle.broadword.specs.Places.{SelectInByte, Debruijn64};
 ghost use Rattle.elias_fano.specs.Accept.{times, ofValue};
 ghost use Rattle.elias_fano.specs.Ask.{Predecessor, Successor, nth, asked, query};
-ghost use Rattle.elias_fano.specs.Opening.{Open};
+ghost use Rattle.elias_fano.specs.Opening.{Open, OneAt};
 ghost use Rattle.elias_fano_queries.specs.Demands.{Behind};
 use crate::rank::rank_within;
 use bit_words::first_from;
 use bit_words::last_before;
+use broadword::debruijn64_table;
 use broadword::select_in_byte_table;
 use elias_fano::image::Opened;
 use elias_fano::image::Parts;
@@ -23,7 +24,7 @@ use elias_fano::image::value_at;
 use errors::Refusal;
 
 // The last value whose one stands before the place, which k ones stand before.
-pub fn value_before(image: &[u64], p: Parts, k: usize, place: usize) -> u64
+fn value_before(image: &[u64], p: Parts, k: usize, place: usize) -> u64
     requires { ⌜ (Behind (now image) p k place × (0 < k)) ⌝ }
     ensures { λ r. ⌜ r ≡ getD (times (now (image .entry))) (k - 1) 0 ⌝ }
 {
@@ -32,13 +33,35 @@ pub fn value_before(image: &[u64], p: Parts, k: usize, place: usize) -> u64
     value_at(image, p, k - 1, x)
 }
 
-// The first value whose one stands at the place or after it; k ones stand before.
-fn value_from(image: &[u64], p: Parts, k: usize, place: usize, table: &[u8; 2048]) -> u64
-    requires { ⌜ (Behind (now image) p k place × (k < p .«num_pushed») × SelectInByte (now table)) ⌝ }
-    ensures { λ r. ⌜ r ≡ getD (times (now (image .entry))) k 0 ⌝ }
+// The one of the value with the number k: the first at the place or after it, which k ones stand before.
+pub fn one_from(
+    image: &[u64],
+    p: Parts,
+    k: usize,
+    place: usize,
+    table: &[u8; 2048],
+    places: &[u8; 64],
+) -> usize
+    requires { ⌜ (Behind (now image) p k place × (k < p .«num_pushed») × SelectInByte (now table) × Debruijn64 (now places)) ⌝ }
+    ensures { λ r. ⌜ OneAt (now (image .entry)) p k r ⌝ }
 {
     let start = p.low_at;
-    let x = first_from(&image[6..start], start - 6, table, place);
+    first_from(&image[6..start], start - 6, table, places, place)
+}
+
+// That value.
+fn value_from(
+    image: &[u64],
+    p: Parts,
+    k: usize,
+    place: usize,
+    table: &[u8; 2048],
+    places: &[u8; 64],
+) -> u64
+    requires { ⌜ (Behind (now image) p k place × (k < p .«num_pushed») × SelectInByte (now table) × Debruijn64 (now places)) ⌝ }
+    ensures { λ r. ⌜ r ≡ getD (times (now (image .entry))) k 0 ⌝ }
+{
+    let x = one_from(image, p, k, place, table, places);
     value_at(image, p, k, x)
 }
 
@@ -78,8 +101,14 @@ pub fn predecessor_opened(image: &[u64], p: Parts, val: u64, table: &[u8; 2048])
 }
 
 // The smallest value at or above val, of an opened image.
-pub fn successor_opened(image: &[u64], p: Parts, val: u64, table: &[u8; 2048]) -> Value
-    requires { ⌜ Open (now image) p (now table) ⌝ }
+pub fn successor_opened(
+    image: &[u64],
+    p: Parts,
+    val: u64,
+    table: &[u8; 2048],
+    places: &[u8; 64],
+) -> Value
+    requires { ⌜ (Open (now image) p (now table) × Debruijn64 (now places)) ⌝ }
     ensures { λ r. ⌜ ofValue r ≡ asked (now (image .entry)) (Successor val) ⌝ }
 {
     if val >= p.universe {
@@ -93,7 +122,7 @@ pub fn successor_opened(image: &[u64], p: Parts, val: u64, table: &[u8; 2048]) -
         return Value::Nothing;
     }
     let h = (val >> p.low_len) as usize;
-    Value::Is(value_from(image, p, k, h + k, table))
+    Value::Is(value_from(image, p, k, h + k, table, places))
 }
 
 // The greatest value at or below val.
@@ -116,7 +145,8 @@ pub fn successor(image: &[u64], val: u64) -> Value
     match open(image) {
         Opened::Image(p) => {
             let table = select_in_byte_table();
-            successor_opened(image, p, val, &table)
+            let places = debruijn64_table();
+            successor_opened(image, p, val, &table, &places)
         }
         Opened::Refused(e) => Value::Refused(e),
     }

@@ -51,10 +51,10 @@ fn answer_opened(
 {
     match kind {
         Kind::Select => tell_value(select_opened(image, p, arg as usize, table)),
-        Kind::Delta => tell_value(delta_opened(image, p, arg as usize, table)),
+        Kind::Delta => tell_value(delta_opened(image, p, arg as usize, table, places)),
         Kind::Rank => tell_number(rank_opened(image, p, arg, table)),
         Kind::Predecessor => tell_value(predecessor_opened(image, p, arg, table)),
-        Kind::Successor => tell_value(successor_opened(image, p, arg, table)),
+        Kind::Successor => tell_value(successor_opened(image, p, arg, table, places)),
         Kind::Binsearch => tell_number(binsearch_opened(image, p, arg, table, places)),
     }
 }
