@@ -17,7 +17,7 @@ use Rattle.broadword.proofs.Count.{bit-le, bit-shift, count-add, count-mono, co
 use Rattle.broadword.proofs.Find.{selected, select-at, select-none, select-some}
 use Rattle.bit_words.specs.Vector.{bitAt, bitOver, wordOver}
 use Rattle.bit_words.specs.Inner.{Skipped, placeIn}
-use Rattle.bit_words.proofs.Runs.{Fit, left-lt, wordOver-lt, bit-under, bitOver-le, bitOver-word, count-word, select-few}
+use Rattle.bit_words.proofs.Runs.{Fit, left-lt, wordOver-lt, bit-under, bitOver-word, count-word}
 use Rattle.bit_words.proofs.Windows.{window-bit}
 
 -- ---- the bits of a word from the place s on

@@ -13,7 +13,6 @@ use Rattle.broadword.specs.Bits.{bit, count}
 use Rattle.broadword.specs.Fields.{word}
 use Rattle.broadword.specs.Places.{select, SelectInByte}
 use Rattle.broadword.specs.declared.Found.the-variants.{At}
-use Rattle.broadword.proofs.Find.{selected}
 use Rattle.bit_words.specs.Vector.{bitAt, bitOver}
 use Rattle.bit_words.proofs.Runs.{bitOver-le}
 use Rattle.darray.specs.Select.{Indexed}
@@ -26,7 +25,7 @@ use Rattle.elias_fano_words.specs.Times.{rising}
 use Rattle.elias_fano.specs.declared.image.Parts.{Parts}
 use Rattle.elias_fano.specs.Accept.{universe, declared, ranked, times, accepted, partsBy, partsOf}
 use Rattle.elias_fano.specs.Ask.{below}
-use Rattle.elias_fano.specs.Opening.{OneAt, highIn, highOf, highPart}
+use Rattle.elias_fano.specs.Opening.{highIn, highOf, highPart}
 use Rattle.elias_fano.proofs.Accepting.{found}
 use Rattle.elias_fano.proofs.Images as images
 use Rattle.elias_fano.proofs.Selecting as selecting
@@ -151,12 +150,6 @@ module _ (i : List ℕ) (ok : accepted i ≡ true) where
         number = zeros-count p e ∙ sym (length-places (bitOver false (highPart i p)) (bitOver-le false (highPart i p)) (p .«high_len»));
         rule = rule;
       }
-
--- ---- the one of a value
-
-pub ones-before : (i : List ℕ) (p : Parts) (k x : ℕ) → OneAt i p k x → (count (bitAt (highPart i p)) x ≡ k) × (x < p .«high_len»)
-unfolding bitOver
-ones-before i p k x o = let s = selected (bitOver true (highPart i p)) (p .«high_len») k x (o .place) in (s .before, s .within)
 
 -- ---- a bit
 
