@@ -19,7 +19,7 @@ use Rattle.elias_fano.specs.declared.image.Parts.{Parts}
 use Rattle.elias_fano.specs.Accept.{universe, times}
 use Rattle.elias_fano.specs.Ask.{below}
 use Rattle.elias_fano.proofs.Selecting as selecting
-use Rattle.elias_fano_queries.specs.Demands.{IsOpen, Stays}
+use Rattle.elias_fano_queries.specs.Demands.{IsOpen}
 use Rattle.elias_fano.specs.Opening.{Open, highPart}
 use Rattle.elias_fano_queries.proofs.Below as below-law
 use Rattle.elias_fano_queries.proofs.Opened as opened
@@ -110,48 +110,42 @@ module _ (i : List ℕ) (p : Parts) (o : IsOpen i p) (v : ℕ) where
             below-law.upto-time u v T (opened.rises i (o .ok)) (j - 1)
             (upper.low-not-less l (getD T (j - 1) 0) v (opened.same-high i (o .ok) p (o .parts) v (j - 1) lo′ hi′ (place-lt q (j - 1) (omega arith)) e) (omega arith))
 
-      -- both tests at once
-      pub stays : v < p .universe → (b c y : ℕ) → b ≡ bitAt (highPart i p) (h + (j - 1)) → c ≡ flag (leb y (getD T (j - 1) 0 % 2 ^ l)) → y ≡ v % 2 ^ l → Stays v T j (bitAnd b c)
-      stays q b c y eb ec ey =
-          let x : ℕ = getD T (j - 1) 0 % 2 ^ l in
-          let hb : b ≤ 1 = subst⁻¹ (λ (n : ℕ). n ≤ 1) eb (bitAt-le (highPart i p) (h + (j - 1))) in
-          let hc : c ≤ 1 = subst⁻¹ (λ (n : ℕ). n ≤ 1) ec (flag-le (leb y x)) in
-          let m = and-bits b c hb hc in
-          record {
-            bit = omega arith;
-            back = λ e. go-back x y refl ey q (omega arith) (leb-true y x (flag-one (leb y x) (omega arith)));
-            stop = λ e. stop (decLt b 1) e;
-          }
-        where
-          stop : Dec (b < 1) → bitAnd b c ≡ 0 → j ≡ below v T
-          stop (yes g) e = stop-zero (omega arith)
-          stop (no g) e =
-              let x : ℕ = getD T (j - 1) 0 % 2 ^ l in
-              let hb : b ≤ 1 = subst⁻¹ (λ (n : ℕ). n ≤ 1) eb (bitAt-le (highPart i p) (h + (j - 1))) in
-              let hc : c ≤ 1 = subst⁻¹ (λ (n : ℕ). n ≤ 1) ec (flag-le (leb y x)) in
-              let m = and-bits b c hb hc in
-              let d = lt-of-not-le g in
-              stop-low x y refl ey (leb-false y x (flag-zero (leb y x) (omega arith)))
-
     -- of the two bits before the end one is not set: the last value alone decides
-    pub at-most-one : (a b r : ℕ) → 2 ≤ e → a ≡ bitAt (highPart i p) (h + (e - 1)) → b ≡ bitAt (highPart i p) (h + (e - 2)) → bitAnd a b ≡ 0 → Stays v T e r → e - r ≡ below v T
-    at-most-one a b r two ea eb z s = go (decLt r 1) (decLt a 1)
+    pub at-most-one : v < p .universe → 2 ≤ e → (a b c y : ℕ) → a ≡ bitAt (highPart i p) (h + (e - 1)) → b ≡ bitAt (highPart i p) (h + (e - 2)) → bitAnd a b ≡ 0 → y ≡ v % 2 ^ l → c ≡ flag (leb y (getD T (e - 1) 0 % 2 ^ l)) → e - bitAnd a c ≡ below v T
+    at-most-one q two a b c y ea eb z ey ec = go (decLt a 1) (decLt c 1)
       where
-        go : Dec (r < 1) → Dec (a < 1) → e - r ≡ below v T
-        go (yes g) _ = let o = s .stop (omega arith) in omega arith
-        go (no g) (yes f) =
-            let w = s .back (omega (arith, s .bit, lt-of-not-le g)) in
-            let o = stop-zero e (omega arith) begins (le-refl e) (sym ea ∙ (let n : a ≡ 0 = omega arith in n)) in
+        x : ℕ
+        x = getD T (e - 1) 0 % 2 ^ l
+
+        ha : a ≤ 1
+        ha = subst⁻¹ (λ (n : ℕ). n ≤ 1) ea (bitAt-le (highPart i p) (h + (e - 1)))
+
+        hb : b ≤ 1
+        hb = subst⁻¹ (λ (n : ℕ). n ≤ 1) eb (bitAt-le (highPart i p) (h + (e - 2)))
+
+        hc : c ≤ 1
+        hc = subst⁻¹ (λ (n : ℕ). n ≤ 1) ec (flag-le (leb y x))
+
+        m : bitAnd a c ≡ min a c
+        m = and-bits a c ha hc
+
+        go : Dec (a < 1) → Dec (c < 1) → e - bitAnd a c ≡ below v T
+        go (yes f) _ = let w = stop-zero e (omega arith) begins (le-refl e) (sym ea ∙ (let n : a ≡ 0 = omega arith in n)) in let n = m in omega arith
+        go (no f) (yes g) =
+            let n = m in
+            let w = stop-low e (omega arith) begins (le-refl e) x y refl ey (leb-false y x (flag-zero (leb y x) (sym ec ∙ (let k : c ≡ 0 = omega arith in k)))) in
             omega arith
-        go (no g) (no f) =
-            let d = lt-of-not-le g in
-            let hr = s .bit in
-            let w = s .back (omega arith) in
-            let ha : a ≤ 1 = subst⁻¹ (λ (n : ℕ). n ≤ 1) ea (bitAt-le (highPart i p) (h + (e - 1))) in
-            let hb : b ≤ 1 = subst⁻¹ (λ (n : ℕ). n ≤ 1) eb (bitAt-le (highPart i p) (h + (e - 2))) in
-            let m = and-bits a b ha hb in
+        go (no f) (no g) =
+            let n = m in
+            let o = and-bits a b ha hb in
+            let fa = lt-of-not-le f in
+            let gc = lt-of-not-le g in
+            let ka = ha in
+            let kc = hc in
+            let one : a ≡ 1 = omega arith in
+            let w = go-back e (omega arith) begins (le-refl e) x y refl ey q (sym ea ∙ one) (leb-true y x (flag-one (leb y x) (sym ec ∙ (let k : c ≡ 1 = omega arith in k)))) in
             let k : h + (e - 2) ≡ h + (e - 1 - 1) = omega arith in
-            let o = stop-zero (e - 1) (omega arith) w (omega arith) (ap (bitAt (highPart i p)) (sym k) ∙ sym eb ∙ (let n : b ≡ 0 = omega (arith, lt-of-not-le f) in n)) in
+            let d = stop-zero (e - 1) (omega arith) w (omega arith) (ap (bitAt (highPart i p)) (sym k) ∙ sym eb ∙ (let j : b ≡ 0 = omega arith in j)) in
             omega arith
 
     -- ---- halving: the value in the middle

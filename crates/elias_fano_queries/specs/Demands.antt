@@ -9,7 +9,6 @@ use Rattle.broadword.specs.Fields.{word}
 use Rattle.bit_words.specs.Vector.{bitAt}
 use Rattle.elias_fano.specs.declared.image.Parts.{Parts}
 use Rattle.elias_fano.specs.Accept.{accepted, partsOf}
-use Rattle.elias_fano.specs.Ask.{below}
 use Rattle.elias_fano.specs.Opening.{Open, highPart}
 
 -- an accepted image with its parts
@@ -25,12 +24,6 @@ pub record Rankable (i : List ℕ) (p : Parts) (table : List ℕ) : Type 0 where
 -- the 17 bits before a place are ones
 abbrev pub crowded : List ℕ → ℕ → Bool
 crowded ws x = ltb 16 x && eqb (word 1 (λ j. bitAt ws (x - 17 + j)) 64 % 2 ^ 17) (2 ^ 17 - 1)
-
--- r is 1 or 0: of the first j values of T, which are all below v or in v's bucket, the last is not below v, or all are
-pub record Stays (v : ℕ) (T : List ℕ) (j r : ℕ) : Type 0 where
-  pub bit : r ≤ 1
-  pub back : r ≡ 1 → below v T ≤ j - 1
-  pub stop : r ≡ 0 → j ≡ below v T
 
 -- as many ones as values before the one with the number k stand before a place of the high bits
 pub record Behind (i : List ℕ) (p : Parts) (k x : ℕ) : Type 0 where

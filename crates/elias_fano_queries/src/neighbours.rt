@@ -49,7 +49,7 @@ pub fn one_from(
     first_from(&image[6..start], start - 6, table, places, place)
 }
 
-// That value.
+// The value with the number k, by its one.
 fn value_from(
     image: &[u64],
     p: Parts,

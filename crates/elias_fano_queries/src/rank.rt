@@ -12,7 +12,7 @@ ghost use Rattle.bit_words.specs.Vector.{bitAt};
 ghost use Rattle.elias_fano.specs.Accept.{times, ofNumber};
 ghost use Rattle.elias_fano.specs.Ask.{Rank, below, asked, query};
 ghost use Rattle.elias_fano.specs.Opening.{Open, highPart};
-ghost use Rattle.elias_fano_queries.specs.Demands.{IsOpen, Rankable, crowded, Stays};
+ghost use Rattle.elias_fano_queries.specs.Demands.{IsOpen, Rankable, crowded};
 use bit_words::WORD_LEN;
 use bit_words::low_bits;
 use bit_words::window;
@@ -157,18 +157,8 @@ fn from_low(image: &[u64], p: Parts, k: usize, low: u64) -> u64
     if low <= low_of(image, p, k) { 1 } else { 0 }
 }
 
-// 1 if the last value before the end of val's bucket is in it and not below val, else 0: no branch, whatever the bucket holds.
-fn last_from(image: &[u64], p: Parts, val: u64, end: usize) -> u64
-    requires { ⌜ (IsOpen (now image) p × (val < p .universe) × (end ≡ below ((val / 2 ^ p .«low_len» + 1) * 2 ^ p .«low_len») (times (now image))) × (0 < end)) ⌝ }
-    ensures { λ r. ⌜ Stays val (times (now (image .entry))) end r ⌝ }
-{
-    let h = (val >> p.low_len) as usize;
-    let low = low_bits(val, p.low_len);
-    high_bit(image, p, h + (end - 1)) & from_low(image, p, end - 1, low)
-}
-
-// How many values are below val, which is below the universe. Few buckets hold two values: only where the two bits before the bucket's end are set is
-// more than its last value looked at, and only then, one by one or by halving.
+// How many values are below val, which is below the universe. Few buckets hold two values: where one of the two bits before the bucket's end is not
+// set, the last value alone decides, and is compared without a branch, whether or not it is in the bucket.
 pub fn rank_within(image: &[u64], p: Parts, val: u64, table: &[u8; 2048]) -> usize
     requires { ⌜ (Rankable (now image) p (now table) × (val < p .universe)) ⌝ }
     ensures { λ r. ⌜ r ≡ below val (times (now (image .entry))) ⌝ }
@@ -178,7 +168,8 @@ pub fn rank_within(image: &[u64], p: Parts, val: u64, table: &[u8; 2048]) -> usi
     if end >= 2 {
         let last = high_bit(image, p, h + (end - 1));
         if last & high_bit(image, p, h + (end - 2)) == 0 {
-            return end - last_from(image, p, val, end) as usize;
+            let low = low_bits(val, p.low_len);
+            return end - (last & from_low(image, p, end - 1, low)) as usize;
         }
     }
     rank_from(image, p, val, end, table)
