@@ -2,7 +2,7 @@
 -- declared count, c the rank choice, T the list of times. Document 01, "src/mii_sequences/elias_fano.rs" and "elias_fano/iter.rs". Assumes nothing.
 use mathlib.Core.List.{List, [], _∷_, _++_}
 use mathlib.Core.Bool.{Bool, not, _&&_, cond}
-use Prim.Native.Nat.{ℕ, zero, suc, _+_, _-_, _/_}
+use Prim.Native.Nat.{ℕ, suc, _+_, _-_}
 use lib.Dec.{eqb, leb, ltb}
 use lib.ListN.{length, getD, take, drop}
 use Rattle.errors.specs.Answer.{Answer, value, none, done, refused, Outcome, leaves}
@@ -65,23 +65,14 @@ unfoldable pub smallest : ℕ → List ℕ → Answer
 smallest v [] = none
 smallest v (x ∷ T) = cond (leb v x) (lesser x (smallest v T)) (smallest v T)
 
--- the number of the first time that is v; the first of the list has the number k
-unfoldable pub scan : ℕ → ℕ → List ℕ → Answer
-scan v k [] = none
-scan v k (x ∷ T) = cond (eqb x v) (value k) (scan v (suc k) T)
+-- the index of the first time that is v; the first of the list has the index k
+unfoldable pub firstIndex : ℕ → ℕ → List ℕ → Answer
+firstIndex v k [] = none
+firstIndex v k (x ∷ T) = cond (eqb x v) (value k) (firstIndex v (suc k) T)
 
--- the search for v from a on and below b: an equal middle is it, else the half that can hold it is searched; once 64 or fewer remain they
--- are scanned from the low end. d is at least b - a
-unfoldable pub halve : ℕ → List ℕ → ℕ → ℕ → ℕ → Answer
-halve v T zero a b = none
-halve v T (suc d) a b =
-    cond (leb (b - a) 64) (scan v a (take (b - a) (drop a T)))
-    (cond (eqb (getD T ((a + b) / 2) 0) v) (value ((a + b) / 2))
-    (halve v T d (cond (ltb v (getD T ((a + b) / 2) 0)) a (suc ((a + b) / 2))) (cond (ltb v (getD T ((a + b) / 2) 0)) ((a + b) / 2) b)))
-
--- none for an empty or reversed range; 9 for one that ends past the times
+-- the search for v: the first index from a on and below b with that time. None for an empty or reversed range; 9 for one that ends past the times
 unfoldable pub searched : List ℕ → ℕ → ℕ → ℕ → Answer
-searched T a b v = cond (leb b a) none (cond (ltb (length T) b) (refused 9) (halve v T (b - a) a b))
+searched T a b v = cond (leb b a) none (cond (ltb (length T) b) (refused 9) (firstIndex v a (take (b - a) (drop a T))))
 
 -- the times that a reading out from k gives into so many words
 abbrev pub readOut : List ℕ → ℕ → ℕ → List ℕ

@@ -17,7 +17,7 @@ use Rattle.elias_fano_words.specs.Sizes.{lowLen, highLen, startLen}
 use Rattle.elias_fano_words.specs.Image.{highFrom, lowNumber, highWords, lowWords, image}
 use Rattle.elias_fano_words.specs.Times.{rising, bitWords, timeIn, timesIn, holds}
 use Rattle.elias_fano.specs.Accept.{fit, times, accepted}
-use Rattle.elias_fano.specs.Ask.{Select, Delta, Rank, Predecessor, Successor, Binsearch, BinsearchRange, nth, gap, below, greatest, smallest, scan, halve, searched, ask, query}
+use Rattle.elias_fano.specs.Ask.{Select, Delta, Rank, Predecessor, Successor, Binsearch, BinsearchRange, nth, gap, below, greatest, smallest, firstIndex, searched, ask, query}
 use Rattle.elias_fano.specs.Made.{Made, made, builder}
 use Rattle.elias_fano.specs.Steps.{tested, newTest, newOf, sound, builderTest, timeTest, filed, pushOf, heldTimes, intact, imageOf, imageTest, buildOf}
 
@@ -85,7 +85,8 @@ rows t =
     ∷ row (query four (Delta 3)) (value 9)
     ∷ row (query (0 ∷ 1 ∷ 0 ∷ 0 ∷ 0 ∷ 0 ∷ 0 ∷ []) (Rank 0)) (value 0)
     ∷ row (query (image 8 64 false (replicate 64 7)) (Binsearch 7)) (value 0)
-    ∷ row (query (image 8 65 false (replicate 65 7)) (Binsearch 7)) (value 32)
+    ∷ row (query (image 8 65 false (replicate 65 7)) (Binsearch 7)) (value 0)
+    ∷ row (query (image 8 65 false (replicate 65 7)) (BinsearchRange 3 65 7)) (value 3)
     ∷ row (query (four ++ replicate 4 5) (Select 3)) (refused 7)
     ∷ call (finish (2 ^ 64 - 1) 1 ((2 ^ 64 - 2) ∷ []) false) (value 10) (widest ++ replicate 6 5)
     ∷ row (query widest (Select 0)) (value (2 ^ 64 - 2))
@@ -108,7 +109,7 @@ past t = simp (le-ltb t 0 (zero-le {n = t}), le-leb 0 t (zero-le {n = t}))
 
 -- by computation, but for the one row with a time that is not known
 pub rows-right : (t : ℕ) → map (λ (r : Row). r .asked) (rows t) ≡ map (λ (r : Row). r .says) (rows t)
-unfolding rows four widest start filedFrom reading finish bit count word last select bitAt bitOver number numberWords overwrite table pos blocks size wide spill before entry lanes lane laneWord laneWords overflow indexWords places same lowLen highLen startLen highFrom lowNumber highWords lowWords image rising bitWords timeIn timesIn holds fit times accepted nth gap below greatest smallest scan halve searched ask query newTest newOf sound builderTest timeTest filed pushOf heldTimes intact imageOf imageTest buildOf
+unfolding rows four widest start filedFrom reading finish bit count word last select bitAt bitOver number numberWords overwrite table pos blocks size wide spill before entry lanes lane laneWord laneWords overflow indexWords places same lowLen highLen startLen highFrom lowNumber highWords lowWords image rising bitWords timeIn timesIn holds fit times accepted nth gap below greatest smallest firstIndex searched ask query newTest newOf sound builderTest timeTest filed pushOf heldTimes intact imageOf imageTest buildOf
 rows-right t =
     let w : List ℕ = replicate 7 0 ++ replicate 9 5 in
     let m : Answer → Made = λ a. tested a (builder 0 1 0 0) w (made done (builder 0 1 1 t) (filed 0 1 0 t w)) in

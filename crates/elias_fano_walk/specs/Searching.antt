@@ -9,8 +9,6 @@ use Rattle.errors.specs.Answer.{Answer, value, none}
 use Rattle.broadword.specs.Places.{Debruijn64}
 use Rattle.elias_fano.specs.declared.image.Parts.{Parts}
 use Rattle.elias_fano.specs.Opening.{Open}
-use Rattle.elias_fano_walk.specs.declared.search.Order.{Order}
-use Rattle.elias_fano_walk.specs.declared.search.Order.the-variants as order
 
 -- an opened image, and both tables
 pub record Searchable (i : List ℕ) (p : Parts) (table places : List ℕ) : Type 0 where
@@ -21,12 +19,6 @@ pub record Searchable (i : List ℕ) (p : Parts) (table places : List ℕ) : Typ
 pub record Range (p : Parts) (a b : ℕ) : Type 0 where
   pub some : a < b
   pub upto : b ≤ p .«num_pushed»
-
--- how x stands to v
-abbrev pub Ordered : Order → ℕ → ℕ → Type 0
-Ordered order.Below x v = x < v
-Ordered order.Equal x v = x ≡ v
-Ordered order.Above x v = v < x
 
 -- a number of the range from a on and below b; the values of the range before it are below v
 pub record ScanStart (T : List ℕ) (a b v r : ℕ) : Type 0 where

@@ -1,14 +1,15 @@
-// Search for a value: halving, and a walk once 64 or fewer remain.
+// Search for the first of equal values: halving, and a walk once 64 or fewer remain.
 //
-// The ones with every 32nd number are found by the index without a look at the high words. So the halving compares the high bits of val with those
-// of such neighbours first, and reads the value in the middle only where they do not tell; the walk starts from one of them where it can.
+// The ones with every 32nd number are found by the index without a look at the high words. So the halving compares the value with such a number
+// at its middle or next before it.
 ghost use mathlib.Core.Path.{_≡_};
-ghost use Prim.Native.Nat.{_-_, _/_, _^_, _<_};
+ghost use Prim.Native.Nat.{_-_, _<_};
+ghost use lib.Dec.{ltb};
 ghost use lib.ListN.{getD, take as takeList, drop};
 ghost use Rattle.elias_fano.specs.Accept.{times, ofNumber};
-ghost use Rattle.elias_fano.specs.Ask.{Binsearch, BinsearchRange, scan, halve, asked, query};
+ghost use Rattle.elias_fano.specs.Ask.{Binsearch, BinsearchRange, firstIndex, asked, query};
 ghost use Rattle.elias_fano.specs.Opening.{Open};
-ghost use Rattle.elias_fano_walk.specs.Searching.{Range, Searchable, Ordered, ScanStart, ofSpot};
+ghost use Rattle.elias_fano_walk.specs.Searching.{Range, Searchable, ScanStart, ofSpot};
 use crate::walk::begin;
 use crate::walk::take;
 use broadword::debruijn64_table;
@@ -19,7 +20,7 @@ use elias_fano::image::Opened;
 use elias_fano::image::Parts;
 use elias_fano::image::one_at;
 use elias_fano::image::open;
-use elias_fano::image::value_of;
+use elias_fano::image::value_at;
 use errors::Refusal;
 
 const LINEAR_SCAN_THRESHOLD: usize = 64;
@@ -27,51 +28,18 @@ const LINEAR_SCAN_THRESHOLD: usize = 64;
 // What the halving and the scan answer where no value is val: an answer of one word comes back in a register, however deep the calls.
 const NOWHERE: usize = usize::MAX;
 
-// How a value of the sequence stands to the one that is looked for.
-enum Order {
-    Below,
-    Equal,
-    Above,
-}
-
-// The high bits of the value with the number k, which there is.
-fn upper_of(image: &[u64], p: Parts, k: usize, table: &[u8; 2048]) -> u64
+// Whether the value with the number k, which there is, is below val: mostly the high bits tell.
+fn is_below(image: &[u64], p: Parts, k: usize, val: u64, table: &[u8; 2048]) -> bool
     requires { ⌜ (Open (now image) p (now table) × (k < p .«num_pushed»)) ⌝ }
-    ensures { λ r. ⌜ r ≡ getD (times (now (image .entry))) k 0 / 2 ^ p .«low_len» ⌝ }
+    ensures { λ r. ⌜ r ≡ ltb (getD (times (now (image .entry))) k 0) val ⌝ }
 {
-    (one_at(image, p, k, table) - k) as u64
-}
-
-fn order_of(x: u64, val: u64) -> Order
-    ensures { λ r. ⌜ Ordered r x val ⌝ }
-{
-    if x == val {
-        Order::Equal
-    } else if val < x {
-        Order::Above
-    } else {
-        Order::Below
+    let place = one_at(image, p, k, table);
+    let upper = (place - k) as u64;
+    let wanted = val >> p.low_len;
+    if upper == wanted {
+        return value_at(image, p, k, place) < val;
     }
-}
-
-// How the value with the number k, which there is, stands to val. The high bits of the values with every 32nd number, at and after it, are
-// compared first.
-fn compare(image: &[u64], p: Parts, k: usize, val: u64, table: &[u8; 2048]) -> Order
-    requires { ⌜ (Open (now image) p (now table) × (k < p .«num_pushed»)) ⌝ }
-    ensures { λ r. ⌜ Ordered r (getD (times (now (image .entry))) k 0) val ⌝ }
-{
-    let upper = val >> p.low_len;
-    let first = k / SUBBLOCK_LEN * SUBBLOCK_LEN;
-    if upper < upper_of(image, p, first, table) {
-        return Order::Above;
-    }
-    let next = first + SUBBLOCK_LEN;
-    if next < p.num_pushed as usize {
-        if upper_of(image, p, next, table) < upper {
-            return Order::Below;
-        }
-    }
-    order_of(value_of(image, p, k, table), val)
+    upper < wanted
 }
 
 // Where a scan from a on and below b can start: the values before are below val.
@@ -79,20 +47,15 @@ fn scan_start(image: &[u64], p: Parts, a: usize, b: usize, val: u64, table: &[u8
     requires { ⌜ (Open (now image) p (now table) × Range p a b) ⌝ }
     ensures { λ r. ⌜ ScanStart (times (now (image .entry))) a b val r ⌝ }
 {
-    let upper = val >> p.low_len;
-    let last = (b - 1) / SUBBLOCK_LEN * SUBBLOCK_LEN;
+    if b - a <= SUBBLOCK_LEN {
+        return a;
+    }
+    let last = (b - 2) / SUBBLOCK_LEN * SUBBLOCK_LEN;
     if last <= a {
         return a;
     }
-    if upper_of(image, p, last, table) < upper {
+    if is_below(image, p, last, val, table) {
         return last;
-    }
-    let before = last - SUBBLOCK_LEN;
-    if before <= a {
-        return a;
-    }
-    if upper_of(image, p, before, table) < upper {
-        return before;
     }
     a
 }
@@ -108,7 +71,7 @@ fn scan_range(
     places: &[u8; 64],
 ) -> usize
     requires { ⌜ (Searchable (now image) p (now table) (now places) × Range p a b) ⌝ }
-    ensures { λ r. ⌜ ofSpot r ≡ scan val a (takeList (b - a) (drop a (times (now (image .entry))))) ⌝ }
+    ensures { λ r. ⌜ ofSpot r ≡ firstIndex val a (takeList (b - a) (drop a (times (now (image .entry))))) ⌝ }
 {
     let from = scan_start(image, p, a, b, val, table);
     let mut w = begin(image, p, from, table);
@@ -129,7 +92,7 @@ fn scan_range(
     NOWHERE
 }
 
-// The search from a on and below b: it calls itself on the half that can hold the value.
+// The same by halving: it calls itself on the part that can hold the first. That is to the left of an equal value, or at it.
 fn halve_range(
     image: &[u64],
     p: Parts,
@@ -140,20 +103,20 @@ fn halve_range(
     places: &[u8; 64],
 ) -> usize
     requires { ⌜ (Searchable (now image) p (now table) (now places) × Range p a b) ⌝ }
-    ensures { λ r. ⌜ ofSpot r ≡ halve val (times (now (image .entry))) (b - a) a b ⌝ }
+    ensures { λ r. ⌜ ofSpot r ≡ firstIndex val a (takeList (b - a) (drop a (times (now (image .entry))))) ⌝ }
 {
     if b - a <= LINEAR_SCAN_THRESHOLD {
         return scan_range(image, p, a, b, val, table, places);
     }
     let mid = (a + b) / 2;
-    match compare(image, p, mid, val, table) {
-        Order::Equal => mid,
-        Order::Above => halve_range(image, p, a, mid, val, table, places),
-        Order::Below => halve_range(image, p, mid + 1, b, val, table, places),
+    let k = mid / SUBBLOCK_LEN * SUBBLOCK_LEN;
+    if is_below(image, p, k, val, table) {
+        return halve_range(image, p, k, b, val, table, places);
     }
+    halve_range(image, p, a, k + 1, val, table, places)
 }
 
-// The number of a value that is val, from a on and below b, of an opened image.
+// The number of the first value that is val, from a on and below b, of an opened image.
 pub fn binsearch_range_opened(
     image: &[u64],
     p: Parts,
@@ -179,7 +142,7 @@ pub fn binsearch_range_opened(
     Number::Is(found)
 }
 
-// The number of a value that is val, of an opened image.
+// The number of the first value that is val, of an opened image.
 pub fn binsearch_opened(
     image: &[u64],
     p: Parts,
@@ -193,7 +156,7 @@ pub fn binsearch_opened(
     binsearch_range_opened(image, p, 0, p.num_pushed as usize, val, table, places)
 }
 
-// The number of a value that is val, from a on and below b.
+// The number of the first value that is val, from a on and below b.
 pub fn binsearch_range(image: &[u64], a: usize, b: usize, val: u64) -> Number
     ensures { λ r. ⌜ ofNumber r ≡ query (now (image .entry)) (BinsearchRange a b val) ⌝ }
 {
@@ -207,7 +170,7 @@ pub fn binsearch_range(image: &[u64], a: usize, b: usize, val: u64) -> Number
     }
 }
 
-// The number of a value that is val.
+// The number of the first value that is val.
 pub fn binsearch(image: &[u64], val: u64) -> Number
     ensures { λ r. ⌜ ofNumber r ≡ query (now (image .entry)) (Binsearch val) ⌝ }
 {

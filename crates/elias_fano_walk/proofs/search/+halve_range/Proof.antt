@@ -1,5 +1,6 @@
 -- The proof of the cycle of calls {halve_range}. The measure is what is left of the range. Assumes nothing.
 use borrow.Author.Needs.{needs}
+use mathlib.Core.Path.{sym, _∙_}
 use native.Mathlib.Omega.{arith}
 use Rattle.elias_fano_walk.proofs.Searched as searched
 use Prim.Native.Nat.{ℕ, _-_, _<_}
@@ -8,7 +9,7 @@ use borrow.Fn.PlainCycle.{Measures, is, falls, and}
 use Rattle.elias_fano_walk.proofs.search.halve_range.Reads as halve-range
 use Rattle.elias_fano_walk.proofs.search.halve_range.Kinds as halve-range-kinds
 use Rattle.elias_fano_walk.proofs.search.+halve_range.Lts-halve_range as halve-range-lts
-use Rattle.elias_fano_walk.proofs.search.compare.Reads as compare-reads
+use Rattle.elias_fano_walk.proofs.search.is_below.Reads as is-below-reads
 use Rattle.elias_fano_walk.proofs.search.scan_range.Reads as scan-range-reads
 use Rattle.elias_fano_walk.proofs.search.+halve_range.{statement}
 use Rattle.elias_fano_walk.proofs.search.+halve_range.Tie.{close}
@@ -27,8 +28,8 @@ halve-range-below t =
 halve-range-sub-if1 : (t : ℕ) → halve-range-lts.Need-sub-if1 (
   scan-range-reads.Asked,
   scan-range-reads.Learnt,
-  compare-reads.Asked,
-  compare-reads.Learnt,
+  is-below-reads.Asked,
+  is-below-reads.Learnt,
   halve-range-below t,
   halve-range.Post,
 ) (halve-range-at t) halve-range.Post
@@ -37,8 +38,8 @@ halve-range-sub-if1 t c = let s = c .before in omega (arith, s .pre .1 .1 .some)
 halve-range-scan-range-requires : (t : ℕ) → halve-range-lts.Need-scan-range-requires (
   scan-range-reads.Asked,
   scan-range-reads.Learnt,
-  compare-reads.Asked,
-  compare-reads.Learnt,
+  is-below-reads.Asked,
+  is-below-reads.Learnt,
   halve-range-below t,
   halve-range.Post,
 ) (halve-range-at t) halve-range.Post
@@ -47,143 +48,113 @@ halve-range-scan-range-requires t c κs = let s = c .before .before in s .pre .1
 halve-range-returns : (t : ℕ) → halve-range-lts.Need-returns (
   scan-range-reads.Asked,
   scan-range-reads.Learnt,
-  compare-reads.Asked,
-  compare-reads.Learnt,
+  is-below-reads.Asked,
+  is-below-reads.Learnt,
   halve-range-below t,
   halve-range.Post,
 ) (halve-range-at t) halve-range.Post
-halve-range-returns t c = let s = c .before .before .before in searched.is-scan (s .args .val) _ (s .args .a) (s .args .b) (c .before .if1 .taken) _ (c .scan-range .ensures)
+halve-range-returns t c = c .scan-range .ensures
 
 halve-range-add-mid : (t : ℕ) → halve-range-lts.Need-add-mid (
   scan-range-reads.Asked,
   scan-range-reads.Learnt,
-  compare-reads.Asked,
-  compare-reads.Learnt,
+  is-below-reads.Asked,
+  is-below-reads.Learnt,
   halve-range-below t,
   halve-range.Post,
 ) (halve-range-at t) halve-range.Post
 halve-range-add-mid t c = let s = c .before .before in record { fits = omega (arith, s .pre .1 .1 .some, searched.few (s .args .image .now) (s .pre .1 .0 .opened .ok) (s .args .p) (s .pre .1 .0 .opened .parts) (s .args .val) (s .args .a) (s .args .b) (s .pre .1 .1)) }
 
-halve-range-compare-requires : (t : ℕ) → halve-range-lts.Need-compare-requires (
+halve-range-mul-k : (t : ℕ) → halve-range-lts.Need-mul-k (
   scan-range-reads.Asked,
   scan-range-reads.Learnt,
-  compare-reads.Asked,
-  compare-reads.Learnt,
+  is-below-reads.Asked,
+  is-below-reads.Learnt,
   halve-range-below t,
   halve-range.Post,
 ) (halve-range-at t) halve-range.Post
-halve-range-compare-requires t c κs = let s = c .before .before in (s .pre .1 .0 .opened, omega (arith, s .pre .1 .1 .some, s .pre .1 .1 .upto))
+halve-range-mul-k t c = search needs
 
-halve-range-enum-told : (t : ℕ) → halve-range-lts.Need-enum-told (
+halve-range-is-below-requires : (t : ℕ) → halve-range-lts.Need-is-below-requires (
   scan-range-reads.Asked,
   scan-range-reads.Learnt,
-  compare-reads.Asked,
-  compare-reads.Learnt,
+  is-below-reads.Asked,
+  is-below-reads.Learnt,
   halve-range-below t,
   halve-range.Post,
 ) (halve-range-at t) halve-range.Post
-halve-range-enum-told t c = search needs
-
-halve-range-enum-told-2 : (t : ℕ) → halve-range-lts.Need-enum-told-2 (
-  scan-range-reads.Asked,
-  scan-range-reads.Learnt,
-  compare-reads.Asked,
-  compare-reads.Learnt,
-  halve-range-below t,
-  halve-range.Post,
-) (halve-range-at t) halve-range.Post
-halve-range-enum-told-2 t c = search needs
+halve-range-is-below-requires t c κs = let s = c .before .before in (s .pre .1 .0 .opened, omega (arith, s .pre .1 .1 .some, s .pre .1 .1 .upto))
 
 halve-range-halve-range-requires : (t : ℕ) → halve-range-lts.Need-halve-range-requires (
   scan-range-reads.Asked,
   scan-range-reads.Learnt,
-  compare-reads.Asked,
-  compare-reads.Learnt,
+  is-below-reads.Asked,
+  is-below-reads.Learnt,
   halve-range-below t,
   halve-range.Post,
 ) (halve-range-at t) halve-range.Post
 halve-range-halve-range-requires t c κs =
-    let s = c .before .before .before .before .before in
-    let h : 64 < s .args .b - s .args .a = c .before .before .before .if1 .left in
-    let u = s .pre .1 .1 .upto in
-    (omega (arith, s .pre .0), (s .pre .1 .0, record { some = omega arith; upto = omega arith }))
-
-halve-range-enum-told-3 : (t : ℕ) → halve-range-lts.Need-enum-told-3 (
-  scan-range-reads.Asked,
-  scan-range-reads.Learnt,
-  compare-reads.Asked,
-  compare-reads.Learnt,
-  halve-range-below t,
-  halve-range.Post,
-) (halve-range-at t) halve-range.Post
-halve-range-enum-told-3 t c = search needs
-
-halve-range-add-halve-range : (t : ℕ) → halve-range-lts.Need-add-halve-range (
-  scan-range-reads.Asked,
-  scan-range-reads.Learnt,
-  compare-reads.Asked,
-  compare-reads.Learnt,
-  halve-range-below t,
-  halve-range.Post,
-) (halve-range-at t) halve-range.Post
-halve-range-add-halve-range t c = let s = c .before .before .before .before .before in record { fits = omega (arith, s .pre .1 .1 .some, searched.few (s .args .image .now) (s .pre .1 .0 .opened .ok) (s .args .p) (s .pre .1 .0 .opened .parts) (s .args .val) (s .args .a) (s .args .b) (s .pre .1 .1)) }
-
-halve-range-halve-range-requires-2 : (t : ℕ) → halve-range-lts.Need-halve-range-requires-2 (
-  scan-range-reads.Asked,
-  scan-range-reads.Learnt,
-  compare-reads.Asked,
-  compare-reads.Learnt,
-  halve-range-below t,
-  halve-range.Post,
-) (halve-range-at t) halve-range.Post
-halve-range-halve-range-requires-2 t c κs =
-    let s = c .before .before .before .before .before in
-    let h : 64 < s .args .b - s .args .a = c .before .before .before .if1 .left in
+    let s = c .before .before .before .before in
+    let h : 64 < s .args .b - s .args .a = c .before .before .if1 .left in
     let u = s .pre .1 .1 .upto in
     (omega (arith, s .pre .0), (s .pre .1 .0, record { some = omega arith; upto = omega arith }))
 
 halve-range-returns-2 : (t : ℕ) → halve-range-lts.Need-returns-2 (
   scan-range-reads.Asked,
   scan-range-reads.Learnt,
-  compare-reads.Asked,
-  compare-reads.Learnt,
+  is-below-reads.Asked,
+  is-below-reads.Learnt,
   halve-range-below t,
   halve-range.Post,
 ) (halve-range-at t) halve-range.Post
 halve-range-returns-2 t c =
     let s = c .before .before .before .before .before in
-    searched.is-middle (s .args .val) _ (s .args .a) (s .args .b) (c .before .before .before .if1 .left) (c .before .before .compare .result) (c .before .before .compare .ensures) (searched.few (s .args .image .now) (s .pre .1 .0 .opened .ok) (s .args .p) (s .pre .1 .0 .opened .parts) (s .args .val) (s .args .a) (s .args .b) (s .pre .1 .1)) (c .enum-told .given .1)
+    let h : 64 < s .args .b - s .args .a = c .before .before .before .if1 .left in
+    searched.goes-right (s .args .image .now) (s .pre .1 .0 .opened .ok) (s .args .p) (s .pre .1 .0 .opened .parts) (s .args .val) (s .args .a) (s .args .b) (s .pre .1 .1) _ (omega arith) (sym (c .before .before .is-below .ensures) ∙ c .before .if2 .taken) (omega arith) _ (c .halve-range .ensures)
+
+halve-range-add-halve-range : (t : ℕ) → halve-range-lts.Need-add-halve-range (
+  scan-range-reads.Asked,
+  scan-range-reads.Learnt,
+  is-below-reads.Asked,
+  is-below-reads.Learnt,
+  halve-range-below t,
+  halve-range.Post,
+) (halve-range-at t) halve-range.Post
+halve-range-add-halve-range t c = search needs
+
+halve-range-halve-range-requires-2 : (t : ℕ) → halve-range-lts.Need-halve-range-requires-2 (
+  scan-range-reads.Asked,
+  scan-range-reads.Learnt,
+  is-below-reads.Asked,
+  is-below-reads.Learnt,
+  halve-range-below t,
+  halve-range.Post,
+) (halve-range-at t) halve-range.Post
+halve-range-halve-range-requires-2 t c κs =
+    let s = c .before .before .before .before in
+    let h : 64 < s .args .b - s .args .a = c .before .before .if1 .left in
+    let u = s .pre .1 .1 .upto in
+    (omega (arith, s .pre .0), (s .pre .1 .0, record { some = omega arith; upto = omega arith }))
 
 halve-range-returns-3 : (t : ℕ) → halve-range-lts.Need-returns-3 (
   scan-range-reads.Asked,
   scan-range-reads.Learnt,
-  compare-reads.Asked,
-  compare-reads.Learnt,
+  is-below-reads.Asked,
+  is-below-reads.Learnt,
   halve-range-below t,
   halve-range.Post,
 ) (halve-range-at t) halve-range.Post
 halve-range-returns-3 t c =
-    let s = c .before .before .before .before .before .before in
-    searched.is-left (s .args .val) _ (s .args .a) (s .args .b) (c .before .before .before .before .if1 .left) (c .before .before .before .compare .result) (c .before .before .before .compare .ensures) (c .before .enum-told2 .given .1) _ (c .halve-range .ensures)
-
-halve-range-returns-4 : (t : ℕ) → halve-range-lts.Need-returns-4 (
-  scan-range-reads.Asked,
-  scan-range-reads.Learnt,
-  compare-reads.Asked,
-  compare-reads.Learnt,
-  halve-range-below t,
-  halve-range.Post,
-) (halve-range-at t) halve-range.Post
-halve-range-returns-4 t c =
-    let s = c .before .before .before .before .before .before in
-    searched.is-right (s .args .val) _ (s .args .a) (s .args .b) (c .before .before .before .before .if1 .left) (c .before .before .before .compare .result) (c .before .before .before .compare .ensures) (c .before .enum-told3 .given .1) _ (c .halve-range2 .ensures)
+    let s = c .before .before .before .before .before in
+    let h : 64 < s .args .b - s .args .a = c .before .before .before .if1 .left in
+    searched.goes-left (s .args .image .now) (s .pre .1 .0 .opened .ok) (s .args .p) (s .pre .1 .0 .opened .parts) (s .args .val) (s .args .a) (s .args .b) (s .pre .1 .1) _ (omega arith) (omega arith) (sym (c .before .before .is-below .ensures) ∙ c .before .if2 .left) _ (c .halve-range2 .ensures)
 
 pub +halve-range-spec : {M : Type 1} → statement M
 +halve-range-spec = close μ-halve-range λ t. halve-range-lts.spec (
   scan-range-reads.Asked,
   scan-range-reads.Learnt,
-  compare-reads.Asked,
-  compare-reads.Learnt,
+  is-below-reads.Asked,
+  is-below-reads.Learnt,
   halve-range-below t,
   halve-range.Post,
 )
@@ -193,13 +164,10 @@ pub +halve-range-spec : {M : Type 1} → statement M
     (halve-range-scan-range-requires t)
     (halve-range-returns t)
     (halve-range-add-mid t)
-    (halve-range-compare-requires t)
-    (halve-range-enum-told t)
-    (halve-range-enum-told-2 t)
+    (halve-range-mul-k t)
+    (halve-range-is-below-requires t)
     (halve-range-halve-range-requires t)
-    (halve-range-enum-told-3 t)
+    (halve-range-returns-2 t)
     (halve-range-add-halve-range t)
     (halve-range-halve-range-requires-2 t)
-    (halve-range-returns-2 t)
     (halve-range-returns-3 t)
-    (halve-range-returns-4 t)
