@@ -14,7 +14,6 @@ TOP = 2**64
 BLOCK = 1_024
 SUBBLOCK = 32
 FAR = 65_536
-SCAN = 64
 
 
 class Bad(Exception):
@@ -65,16 +64,6 @@ def places(bits, b):
 
 def kth(values, k):
     return values[k] if k < len(values) else None
-
-
-def halved(times, a, b, v):
-    """The search for v from a on and below b: halving, and a scan from the low end once 64 or fewer remain."""
-    if b - a <= SCAN:
-        return next((k for k in range(a, b) if times[k] == v), None)
-    middle = (a + b) // 2
-    if times[middle] == v:
-        return middle
-    return halved(times, a, middle, v) if v < times[middle] else halved(times, middle + 1, b, v)
 
 
 def select_index(positions):
@@ -363,7 +352,7 @@ class Record:
             return None
         if b > len(times):
             raise Refused(9)
-        return halved(times, a, b, v)
+        return next((k for k in range(a, b) if times[k] == v), None)
 
     def len(self):
         _, _, times = self.accepted()

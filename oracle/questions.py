@@ -105,21 +105,23 @@ def pairs():
     return records.pairs(EXAMPLES)
 
 
-def equal(n, found):
-    """So many times 7: a search for it."""
-    lines = [f"buffer {size(8, n) + 6} 0", *made(8, n, [7] * n), "finish 0", "search 7"]
-    return [line.encode() for line in lines], str(found)
+# So many times 7, what is asked of them, and the answer.
+EQUAL = ((64, "search 7", "0"), (65, "search 7", "0"), (65, "search_range 3 65 7", "3"))
+
+
+def equal(n, question):
+    lines = [f"buffer {size(8, n) + 6} 0", *made(8, n, [7] * n), "finish 0", question]
+    return [line.encode() for line in lines]
 
 
 def check_examples():
     """The worked examples hold in the model."""
     records.hold(EXAMPLES)
-    for n, found in ((64, 0), (65, 32)):
-        lines, answer = equal(n, found)
+    for n, question, answer in EQUAL:
         console = Console()
-        got = [console.line(line) for line in lines][-1]
+        got = [console.line(line) for line in equal(n, question)][-1]
         if got != answer:
-            sys.exit(f"search for 7 among {n} times 7: {got} instead of {answer}")
+            sys.exit(f"{question} of {n} times 7: {got} instead of {answer}")
 
 
 # Making lines.
@@ -229,6 +231,30 @@ def add_edges(add):
     for n in (17, 63, 64, 65, 66, 128, 129, 130, 200):
         record(add, 8, n, [7] * n, (n % 2,), 14)
         record(add, 2**40, n, [2**39 + 5] * n, (1 - n % 2,), 14)
+
+
+def runs(*pairs):
+    """Each time so often, for each (so often, time)."""
+    return [t for many, t in pairs for _ in range(many)]
+
+
+def add_runs(add):
+    add.note("runs of equal times: the first of the list, and of a range that begins or ends in a run")
+    for u, n, times in (
+        (8, 65, runs((65, 7))),
+        (20, 300, runs((100, 5), (100, 9), (100, 12))),
+        (2**20, 300, runs((1, 256), (95, 257), (33, 300), (64, 511), (107, 2**19))),
+        (2**20, 400, runs((31, 9), (1, 10), (32, 2_621), (33, 2_622), (65, 5_300), (97, 5_301), (141, 2**20 - 1))),
+        (10**9, 2_000, runs((700, 10**6), (1_000, 10**6 + 1), (300, 10**9 - 1))),
+    ):
+        lay(add, u, n, times, len(Settings(u, n).image(0, times)))
+        add("finish", 0)
+        ends = [k for k in range(len(times)) if k == 0 or times[k] != times[k - 1]]
+        for v in sorted({v for k in ends for v in (times[k] - 1, times[k], times[k] + 1)}):
+            add("search", v)
+        for k, end in zip(ends, [*ends[1:], len(times)]):
+            for a, b in ((0, end), (k, end), (k + 3, len(times)), (k // 2, end), (k // 2, end - 1), (k // 2, k), (k, k + 1), (end - 1, len(times))):
+                add("search_range", a, b, times[k])
 
 
 def add_buckets(add):
@@ -364,8 +390,8 @@ def add_questions(add, count):
     add.note("questions over an image")
     for command, _ in pairs():
         add(command)
-    for n, found in ((64, 0), (65, 32)):
-        for line in equal(n, found)[0]:
+    for n, question, _ in EQUAL:
+        for line in equal(n, question):
             add(line)
     add.note("the smallest input of each difference from the Rust")
     for _, smallest, _ in records.DIFFERENCES[records.BUILDING : records.ASKING]:
@@ -381,6 +407,7 @@ def add_questions(add, count):
     add_many(add)
     add_damaged(add)
     add_out_of_form(add)
+    add_runs(add)
 
 
 def exhaustive():

@@ -151,6 +151,11 @@ DIFFERENCES = [
         lambda c: c.name == "search_range" and c.model == "refused 9" and (c.rust == "none" or c.rust.isdigit()),
     ),
     (
+        "the first of equal times, where the Rust finds a later one",
+        ["buffer 17 0", "start 8 65", *["reading 7"] * 65, "finish 0", "search 7"],
+        lambda c: c.name in ("search", "search_range") and c.same_time(),
+    ),
+    (
         "a walk over an empty record, in a debug build",
         ["buffer 7 0", "start 0 1", "finish 0", "walk 0 0"],
         lambda c: c.name in ("walk", "read") and c.empty and c.rust == "panic",
@@ -178,7 +183,7 @@ DIFFERENCES = [
 ]
 
 # So many of them are of a start, a reading or a finish, then of questions, then of the prefix sums; the others are of a record from bits.
-BUILDING, ASKING, SUMS = 5, 9, 11
+BUILDING, ASKING, SUMS = 5, 10, 12
 
 # A release build answers there as the port does.
 ONLY_IN_DEBUG = DIFFERENCES[ASKING - 1][0]
@@ -187,10 +192,17 @@ ONLY_IN_DEBUG = DIFFERENCES[ASKING - 1][0]
 class Case:
     """A call that the Rust has: what the model answered, where the Rust's answer stands, and what the image is to be."""
 
-    def __init__(self, line, name, model, at, words=None, empty=False):
+    def __init__(self, line, name, model, at, words=None, times=None):
         self.line, self.name, self.model, self.at, self.words = line, name, model, at, words
-        self.empty = empty
+        self.times, self.empty = times, times == []
         self.rust = None
+
+    def same_time(self):
+        """Both found a time, the same one, and the port the earlier of its places."""
+        if not (self.model.isdigit() and self.rust.isdigit()):
+            return False
+        port, rust = int(self.model), int(self.rust)
+        return port < rust and self.times[port] == self.times[rust]
 
     def agrees(self):
         if self.words is not None:
@@ -235,7 +247,7 @@ class Images:
         if self.held != words:
             self.hold(line, answer, words, times)
         if name in (*ASKED, *ITEMS):
-            self.cases.append(Case(line, name, answer, len(self.sent), empty=not times))
+            self.cases.append(Case(line, name, answer, len(self.sent), times=times))
             self.sent.append(line.replace("read", "walk"))
 
     def hold(self, line, answer, words, times):

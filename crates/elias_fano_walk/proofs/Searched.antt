@@ -75,28 +75,6 @@ module _ (v : ℕ) (T : List ℕ) where
       first-past : (j : ℕ) → v < getD T j 0 → firstFrom v T b j ≡ none
       first-past j g = past (b - j) j (le-refl (b - j)) (λ _. g)
 
-    -- where the one with the number k is not below v, none after it is looked at
-    module _ (b k : ℕ) (up : b ≤ length T) (kb : k < b) (h : v ≤ getD T k 0) where
-      at-k : Dec (getD T k 0 ≡ v) → firstFrom v T (k + 1) k ≡ firstFrom v T b k
-      at-k (yes e) = first-here (k + 1) (omega arith) k (omega arith) e ∙ sym (first-here b up k kb e)
-      at-k (no n) =
-          let g : v < getD T k 0 = lt-of-not-le (λ (l : getD T k 0 ≤ v). n (omega arith)) in
-          first-past (k + 1) (omega arith) k g ∙ sym (first-past b up k g)
-
-      abbrev Cut : ℕ → ℕ → Type 0
-      Cut d j = j + d ≡ k → firstFrom v T (k + 1) j ≡ firstFrom v T b j
-
-      cut : (d j : ℕ) → Cut d j
-      cut zero j e = subst⁻¹ (λ (y : ℕ). firstFrom v T (k + 1) y ≡ firstFrom v T b y) (let q : j ≡ k = omega arith in q) (at-k (ℕ-discrete (getD T k 0) v))
-      cut (suc d) j e = go (cut d (j + 1)) (ℕ-discrete (getD T j 0) v)
-        where
-          go : Cut d (j + 1) → Dec (getD T j 0 ≡ v) → firstFrom v T (k + 1) j ≡ firstFrom v T b j
-          go ih (yes q) = first-here (k + 1) (omega arith) j (omega arith) q ∙ sym (first-here b up j (omega arith) q)
-          go ih (no n) = first-on (k + 1) (omega arith) j (omega arith) n ∙ ih (omega arith) ∙ sym (first-on b up j (omega arith) n)
-
-      first-cut : (a : ℕ) → a ≤ k → firstFrom v T (k + 1) a ≡ firstFrom v T b a
-      first-cut a l = cut (k - a) a (let e : a + (k - a) ≡ k = omega arith in e)
-
 -- ---- an answer in one word
 
 pub spot-none : (r : ℕ) → r ≡ 2 ^ 64 - 1 → ofSpot r ≡ none
@@ -155,22 +133,22 @@ module _ (i : List ℕ) (ok : accepted i ≡ true) (p : Parts) (ep : p ≡ parts
   pub few : b ≤ 2 ^ 32
   few = let f = images.is-fit i ok in omega (arith, up, f .few, f .most)
 
+  pub halve-ends : ScanStart (times i) a b v a
+  halve-ends = record { from = le-refl a; upto = g .some; less = λ j h m. omega arith }
+
   -- the value with the number k is below v, and so are those before
-  module _ (k : ℕ) (kb : k < b) (l : ltb (getD (times i) k 0) v ≡ true) where
-    less : (j : ℕ) → j < k → a ≤ j → getD (times i) j 0 < v
-    less j h m = lt-of-le-of-lt (upto _ (times i) (images.is-fit i ok .rises) j k (omega arith) (omega (arith, up))) (ltb-true (getD (times i) k 0) v l)
+  pub goes-right : (k r : ℕ) → a ≤ k → k < b → ltb (getD (times i) k 0) v ≡ true → ScanStart (times i) k b v r → ScanStart (times i) a b v r
+  goes-right k r h kb l s = record { from = omega (arith, s .from); upto = s .upto; less = λ j m n. go j m (decLt j k) }
+    where
+      go : (j : ℕ) → j < r → Dec (j < k) → getD (times i) j 0 < v
+      go j m (yes q) = lt-of-le-of-lt (upto _ (times i) (images.is-fit i ok .rises) j k (omega arith) (omega (arith, up))) (ltb-true (getD (times i) k 0) v l)
+      go j m (no q) = s .less j m (omega (arith, lt-of-not-le q))
 
-    pub start-later : a < k → ScanStart (times i) a b v k
-    start-later h = record { from = omega arith; upto = kb; less = less }
+  pub goes-left : (k r : ℕ) → k < b → ScanStart (times i) a (k + 1) v r → ScanStart (times i) a b v r
+  goes-left k r kb s = record { from = s .from; upto = omega (arith, s .upto); less = s .less }
 
-    pub goes-right : a ≤ k → (r : Answer) → r ≡ firstFrom v (times i) b k → r ≡ firstFrom v (times i) b a
-    goes-right h r e = e ∙ sym (first-skip v (times i) b up a k h (omega arith) less)
-
-  pub goes-left : (k : ℕ) → a ≤ k → k < b → ltb (getD (times i) k 0) v ≡ false → (r : Answer) → r ≡ firstFrom v (times i) (k + 1) a → r ≡ firstFrom v (times i) b a
-  goes-left k h kb l r e = e ∙ first-cut v (times i) _ (images.is-fit i ok .rises) b k up kb (ltb-false (getD (times i) k 0) v l) a h
-
-  pub scan-begins : (r : ℕ) → ScanStart (times i) a b v r → (w : Walk) → WalkOver i p w → w .number ≡ r → Scanning i p v a b w r
-  scan-begins r s w h e = record { upto = omega (arith, s .upto); walking = h; number = e; same = first-skip v (times i) b up a r (s .from) (omega (arith, s .upto)) (s .less) }
+  pub scan-begins : (w : Walk) → WalkOver i p w → w .number ≡ a → Scanning i p v a b w a
+  scan-begins w h e = record { upto = omega (arith, g .some); walking = h; number = e; same = refl }
 
   module _ (w : Walk) (j : ℕ) (s : Scanning i p v a b w j) where
     pub scan-ends : b ≤ j → ofSpot (2 ^ 64 - 1) ≡ firstFrom v (times i) b a
@@ -205,9 +183,12 @@ module _ (i : List ℕ) (ok : accepted i ≡ true) (p : Parts) (ep : p ≡ parts
   unfolding ask searched
   search-refused a b l h = sym (simp (lt-leb b a l, lt-ltb (length (times i)) b (subst (λ (y : ℕ). y < b) (selecting.pushed-is i ok p ep) h)))
 
-  pub search-found : (a b : ℕ) → a < b → b ≤ p .«num_pushed» → (r : Answer) → r ≡ firstFrom v (times i) b a → r ≡ asked i (BinsearchRange a b v)
+  -- what is scanned from a start of a scan on is what is searched
+  pub search-found : (a b : ℕ) → Range p a b → (r : ℕ) → ScanStart (times i) a b v r → (x : Answer) → x ≡ firstFrom v (times i) b r → x ≡ asked i (BinsearchRange a b v)
   unfolding ask searched
-  search-found a b l h r e = e ∙ sym (simp (lt-leb b a l, le-ltb (length (times i)) b (subst (λ (y : ℕ). b ≤ y) (selecting.pushed-is i ok p ep) h)))
+  search-found a b g r s x e =
+      let h = up i ok p ep v a b g in
+      e ∙ sym (first-skip v (times i) b h a r (s .from) (omega (arith, s .upto)) (s .less)) ∙ sym (simp (lt-leb b a (g .some), le-ltb (length (times i)) b h))
 
   pub search-all : (r : Answer) → r ≡ asked i (BinsearchRange 0 (p .«num_pushed») v) → r ≡ asked i (Binsearch v)
   unfolding ask

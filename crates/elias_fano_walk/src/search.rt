@@ -42,22 +42,21 @@ fn is_below(image: &[u64], p: Parts, k: usize, val: u64, table: &[u8; 2048]) -> 
     upper < wanted
 }
 
-// Where a scan from a on and below b can start: the values before are below val.
-fn scan_start(image: &[u64], p: Parts, a: usize, b: usize, val: u64, table: &[u8; 2048]) -> usize
+// Where a scan for the first val from a on and below b can start: the values before are below val. It calls itself on the part that can hold the
+// first: from the number compared on where that value is below, else up to it, also where it is val. 64 or fewer are left to the scan.
+fn halve_range(image: &[u64], p: Parts, a: usize, b: usize, val: u64, table: &[u8; 2048]) -> usize
     requires { ⌜ (Open (now image) p (now table) × Range p a b) ⌝ }
     ensures { λ r. ⌜ ScanStart (times (now (image .entry))) a b val r ⌝ }
 {
-    if b - a <= SUBBLOCK_LEN {
+    if b - a <= LINEAR_SCAN_THRESHOLD {
         return a;
     }
-    let last = (b - 2) / SUBBLOCK_LEN * SUBBLOCK_LEN;
-    if last <= a {
-        return a;
+    let mid = (a + b) / 2;
+    let k = mid / SUBBLOCK_LEN * SUBBLOCK_LEN;
+    if is_below(image, p, k, val, table) {
+        return halve_range(image, p, k, b, val, table);
     }
-    if is_below(image, p, last, val, table) {
-        return last;
-    }
-    a
+    halve_range(image, p, a, k + 1, val, table)
 }
 
 // The number of the first value from a on and below b that is val, or NOWHERE. The values do not fall, so it ends at the first that is not below val.
@@ -73,9 +72,8 @@ fn scan_range(
     requires { ⌜ (Searchable (now image) p (now table) (now places) × Range p a b) ⌝ }
     ensures { λ r. ⌜ ofSpot r ≡ firstIndex val a (takeList (b - a) (drop a (times (now (image .entry))))) ⌝ }
 {
-    let from = scan_start(image, p, a, b, val, table);
-    let mut w = begin(image, p, from, table);
-    let mut i = from;
+    let mut w = begin(image, p, a, table);
+    let mut i = a;
     while i < b {
         let t = take(image, p, w, places);
         let x = t.value;
@@ -90,30 +88,6 @@ fn scan_range(
         i += 1;
     }
     NOWHERE
-}
-
-// The same by halving: it calls itself on the part that can hold the first. That is to the left of an equal value, or at it.
-fn halve_range(
-    image: &[u64],
-    p: Parts,
-    a: usize,
-    b: usize,
-    val: u64,
-    table: &[u8; 2048],
-    places: &[u8; 64],
-) -> usize
-    requires { ⌜ (Searchable (now image) p (now table) (now places) × Range p a b) ⌝ }
-    ensures { λ r. ⌜ ofSpot r ≡ firstIndex val a (takeList (b - a) (drop a (times (now (image .entry))))) ⌝ }
-{
-    if b - a <= LINEAR_SCAN_THRESHOLD {
-        return scan_range(image, p, a, b, val, table, places);
-    }
-    let mid = (a + b) / 2;
-    let k = mid / SUBBLOCK_LEN * SUBBLOCK_LEN;
-    if is_below(image, p, k, val, table) {
-        return halve_range(image, p, k, b, val, table, places);
-    }
-    halve_range(image, p, a, k + 1, val, table, places)
 }
 
 // The number of the first value that is val, from a on and below b, of an opened image.
@@ -135,7 +109,8 @@ pub fn binsearch_range_opened(
     if b > p.num_pushed as usize {
         return Number::Refused(Refusal::RangeOutOfBounds);
     }
-    let found = halve_range(image, p, a, b, val, table, places);
+    let from = halve_range(image, p, a, b, val, table);
+    let found = scan_range(image, p, from, b, val, table, places);
     if found == NOWHERE {
         return Number::Nothing;
     }

@@ -10,24 +10,21 @@ use Rattle.elias_fano_walk.proofs.search.halve_range.Reads as halve-ran
 use Rattle.elias_fano_walk.proofs.search.halve_range.Kinds as halve-range-kinds
 use Rattle.elias_fano_walk.proofs.search.+halve_range.Lts-halve_range as halve-range-lts
 use Rattle.elias_fano_walk.proofs.search.is_below.Reads as is-below-reads
-use Rattle.elias_fano_walk.proofs.search.scan_range.Reads as scan-range-reads
 use Rattle.elias_fano_walk.proofs.search.+halve_range.{statement}
 use Rattle.elias_fano_walk.proofs.search.+halve_range.Tie.{close}
 
-abbrev μ-halve-range : Measures 3 halve-range-kinds.ps ℕ
+abbrev μ-halve-range : Measures 2 halve-range-kinds.ps ℕ
 μ-halve-range κs a = a .1 .1 .1 .0 - a .1 .1 .0
 
-abbrev halve-range-at : ℕ → In 3 halve-range-kinds.ps
+abbrev halve-range-at : ℕ → In 2 halve-range-kinds.ps
 halve-range-at t =
-    and 3 halve-range-kinds.ps (is 3 halve-range-kinds.ps μ-halve-range t) halve-range.Pre
+    and 2 halve-range-kinds.ps (is 2 halve-range-kinds.ps μ-halve-range t) halve-range.Pre
 
-abbrev halve-range-below : ℕ → In 3 halve-range-kinds.ps
+abbrev halve-range-below : ℕ → In 2 halve-range-kinds.ps
 halve-range-below t =
-    and 3 halve-range-kinds.ps (falls 3 halve-range-kinds.ps _<_ μ-halve-range t) halve-range.Pre
+    and 2 halve-range-kinds.ps (falls 2 halve-range-kinds.ps _<_ μ-halve-range t) halve-range.Pre
 
 halve-range-sub-if1 : (t : ℕ) → halve-range-lts.Need-sub-if1 (
-  scan-range-reads.Asked,
-  scan-range-reads.Learnt,
   is-below-reads.Asked,
   is-below-reads.Learnt,
   halve-range-below t,
@@ -35,39 +32,23 @@ halve-range-sub-if1 : (t : ℕ) → halve-range-lts.Need-sub-if1 (
 ) (halve-range-at t) halve-range.Post
 halve-range-sub-if1 t c = let s = c .before in omega (arith, s .pre .1 .1 .some)
 
-halve-range-scan-range-requires : (t : ℕ) → halve-range-lts.Need-scan-range-requires (
-  scan-range-reads.Asked,
-  scan-range-reads.Learnt,
-  is-below-reads.Asked,
-  is-below-reads.Learnt,
-  halve-range-below t,
-  halve-range.Post,
-) (halve-range-at t) halve-range.Post
-halve-range-scan-range-requires t c κs = let s = c .before .before in s .pre .1
-
 halve-range-returns : (t : ℕ) → halve-range-lts.Need-returns (
-  scan-range-reads.Asked,
-  scan-range-reads.Learnt,
   is-below-reads.Asked,
   is-below-reads.Learnt,
   halve-range-below t,
   halve-range.Post,
 ) (halve-range-at t) halve-range.Post
-halve-range-returns t c = c .scan-range .ensures
+halve-range-returns t c = let s = c .before .before in searched.halve-ends (s .args .image .now) (s .pre .1 .0 .ok) (s .args .p) (s .pre .1 .0 .parts) (s .args .val) (s .args .a) (s .args .b) (s .pre .1 .1)
 
 halve-range-add-mid : (t : ℕ) → halve-range-lts.Need-add-mid (
-  scan-range-reads.Asked,
-  scan-range-reads.Learnt,
   is-below-reads.Asked,
   is-below-reads.Learnt,
   halve-range-below t,
   halve-range.Post,
 ) (halve-range-at t) halve-range.Post
-halve-range-add-mid t c = let s = c .before .before in record { fits = omega (arith, s .pre .1 .1 .some, searched.few (s .args .image .now) (s .pre .1 .0 .opened .ok) (s .args .p) (s .pre .1 .0 .opened .parts) (s .args .val) (s .args .a) (s .args .b) (s .pre .1 .1)) }
+halve-range-add-mid t c = let s = c .before .before in record { fits = omega (arith, s .pre .1 .1 .some, searched.few (s .args .image .now) (s .pre .1 .0 .ok) (s .args .p) (s .pre .1 .0 .parts) (s .args .val) (s .args .a) (s .args .b) (s .pre .1 .1)) }
 
 halve-range-mul-k : (t : ℕ) → halve-range-lts.Need-mul-k (
-  scan-range-reads.Asked,
-  scan-range-reads.Learnt,
   is-below-reads.Asked,
   is-below-reads.Learnt,
   halve-range-below t,
@@ -76,18 +57,14 @@ halve-range-mul-k : (t : ℕ) → halve-range-lts.Need-mul-k (
 halve-range-mul-k t c = search needs
 
 halve-range-is-below-requires : (t : ℕ) → halve-range-lts.Need-is-below-requires (
-  scan-range-reads.Asked,
-  scan-range-reads.Learnt,
   is-below-reads.Asked,
   is-below-reads.Learnt,
   halve-range-below t,
   halve-range.Post,
 ) (halve-range-at t) halve-range.Post
-halve-range-is-below-requires t c κs = let s = c .before .before in (s .pre .1 .0 .opened, omega (arith, s .pre .1 .1 .some, s .pre .1 .1 .upto))
+halve-range-is-below-requires t c κs = let s = c .before .before in (s .pre .1 .0, omega (arith, s .pre .1 .1 .some, s .pre .1 .1 .upto))
 
 halve-range-halve-range-requires : (t : ℕ) → halve-range-lts.Need-halve-range-requires (
-  scan-range-reads.Asked,
-  scan-range-reads.Learnt,
   is-below-reads.Asked,
   is-below-reads.Learnt,
   halve-range-below t,
@@ -100,8 +77,6 @@ halve-range-halve-range-requires t c κs =
     (omega (arith, s .pre .0), (s .pre .1 .0, record { some = omega arith; upto = omega arith }))
 
 halve-range-returns-2 : (t : ℕ) → halve-range-lts.Need-returns-2 (
-  scan-range-reads.Asked,
-  scan-range-reads.Learnt,
   is-below-reads.Asked,
   is-below-reads.Learnt,
   halve-range-below t,
@@ -110,11 +85,9 @@ halve-range-returns-2 : (t : ℕ) → halve-range-lts.Need-returns-2 (
 halve-range-returns-2 t c =
     let s = c .before .before .before .before .before in
     let h : 64 < s .args .b - s .args .a = c .before .before .before .if1 .left in
-    searched.goes-right (s .args .image .now) (s .pre .1 .0 .opened .ok) (s .args .p) (s .pre .1 .0 .opened .parts) (s .args .val) (s .args .a) (s .args .b) (s .pre .1 .1) _ (omega arith) (sym (c .before .before .is-below .ensures) ∙ c .before .if2 .taken) (omega arith) _ (c .halve-range .ensures)
+    searched.goes-right (s .args .image .now) (s .pre .1 .0 .ok) (s .args .p) (s .pre .1 .0 .parts) (s .args .val) (s .args .a) (s .args .b) (s .pre .1 .1) _ _ (omega arith) (omega arith) (sym (c .before .before .is-below .ensures) ∙ c .before .if2 .taken) (c .halve-range .ensures)
 
 halve-range-add-halve-range : (t : ℕ) → halve-range-lts.Need-add-halve-range (
-  scan-range-reads.Asked,
-  scan-range-reads.Learnt,
   is-below-reads.Asked,
   is-below-reads.Learnt,
   halve-range-below t,
@@ -123,8 +96,6 @@ halve-range-add-halve-range : (t : ℕ) → halve-range-lts.Need-add-halve-range
 halve-range-add-halve-range t c = search needs
 
 halve-range-halve-range-requires-2 : (t : ℕ) → halve-range-lts.Need-halve-range-requires-2 (
-  scan-range-reads.Asked,
-  scan-range-reads.Learnt,
   is-below-reads.Asked,
   is-below-reads.Learnt,
   halve-range-below t,
@@ -137,8 +108,6 @@ halve-range-halve-range-requires-2 t c κs =
     (omega (arith, s .pre .0), (s .pre .1 .0, record { some = omega arith; upto = omega arith }))
 
 halve-range-returns-3 : (t : ℕ) → halve-range-lts.Need-returns-3 (
-  scan-range-reads.Asked,
-  scan-range-reads.Learnt,
   is-below-reads.Asked,
   is-below-reads.Learnt,
   halve-range-below t,
@@ -147,12 +116,10 @@ halve-range-returns-3 : (t : ℕ) → halve-range-lts.Need-returns-3 (
 halve-range-returns-3 t c =
     let s = c .before .before .before .before .before in
     let h : 64 < s .args .b - s .args .a = c .before .before .before .if1 .left in
-    searched.goes-left (s .args .image .now) (s .pre .1 .0 .opened .ok) (s .args .p) (s .pre .1 .0 .opened .parts) (s .args .val) (s .args .a) (s .args .b) (s .pre .1 .1) _ (omega arith) (omega arith) (sym (c .before .before .is-below .ensures) ∙ c .before .if2 .left) _ (c .halve-range2 .ensures)
+    searched.goes-left (s .args .image .now) (s .pre .1 .0 .ok) (s .args .p) (s .pre .1 .0 .parts) (s .args .val) (s .args .a) (s .args .b) (s .pre .1 .1) _ _ (omega arith) (c .halve-range2 .ensures)
 
 pub +halve-range-spec : {M : Type 1} → statement M
 +halve-range-spec = close μ-halve-range λ t. halve-range-lts.spec (
-  scan-range-reads.Asked,
-  scan-range-reads.Learnt,
   is-below-reads.Asked,
   is-below-reads.Learnt,
   halve-range-below t,
@@ -161,7 +128,6 @@ pub +halve-range-spec : {M : Type 1} → statement M
     (halve-range-at t)
     halve-range.Post
     (halve-range-sub-if1 t)
-    (halve-range-scan-range-requires t)
     (halve-range-returns t)
     (halve-range-add-mid t)
     (halve-range-mul-k t)

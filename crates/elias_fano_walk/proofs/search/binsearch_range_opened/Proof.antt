@@ -15,11 +15,18 @@ returns-2 c = let s = c .before .before .before in searched.search-refused (s .a
 halve-range-requires : tie.Need-halve-range-requires
 halve-range-requires c κs = search needs
 
+scan-range-requires : tie.Need-scan-range-requires
+scan-range-requires c κs = search needs
+
 returns-3 : tie.Need-returns-3
-returns-3 c = let s = c .before .before .before .before .before in searched.search-found (s .args .image .now) (s .pre .opened .ok) (s .args .p) (s .pre .opened .parts) (s .args .val) (s .args .a) (s .args .b) (c .before .before .before .if1 .left) (c .before .before .if2 .left) _ (sym (searched.spot-none _ (c .if3 .taken)) ∙ c .before .halve-range .ensures)
+returns-3 c =
+    let s = c .before .before .before .before .before .before in
+    searched.search-found (s .args .image .now) (s .pre .opened .ok) (s .args .p) (s .pre .opened .parts) (s .args .val) (s .args .a) (s .args .b) (record { some = c .before .before .before .before .if1 .left; upto = c .before .before .before .if2 .left }) _ (c .before .before .halve-range .ensures) _ (sym (searched.spot-none _ (c .if3 .taken)) ∙ c .before .scan-range .ensures)
 
 returns-4 : tie.Need-returns-4
-returns-4 c = let s = c .before .before .before .before .before in searched.search-found (s .args .image .now) (s .pre .opened .ok) (s .args .p) (s .pre .opened .parts) (s .args .val) (s .args .a) (s .args .b) (c .before .before .before .if1 .left) (c .before .before .if2 .left) _ (sym (searched.spot-some _ (c .if3 .left)) ∙ c .before .halve-range .ensures)
+returns-4 c =
+    let s = c .before .before .before .before .before .before in
+    searched.search-found (s .args .image .now) (s .pre .opened .ok) (s .args .p) (s .pre .opened .parts) (s .args .val) (s .args .a) (s .args .b) (record { some = c .before .before .before .before .if1 .left; upto = c .before .before .before .if2 .left }) _ (c .before .before .halve-range .ensures) _ (sym (searched.spot-some _ (c .if3 .left)) ∙ c .before .scan-range .ensures)
 
 pub binsearch-range-opened-spec : {M : Type 1} → statement M
-binsearch-range-opened-spec = tie.close (tie.spec returns returns-2 halve-range-requires returns-3 returns-4)
+binsearch-range-opened-spec = tie.close (tie.spec returns returns-2 halve-range-requires scan-range-requires returns-3 returns-4)

@@ -8,35 +8,32 @@ use Rattle.elias_fano_walk.proofs.search.scan_range.Statement.{statemen
 use Rattle.elias_fano_walk.proofs.search.scan_range.Tie as tie
 
 abbrev Inv-loop : tie.InvT-loop
-Inv-loop image p a b val table places from w₀ i₀ w i = searched.Scanning image p val a b w i
+Inv-loop image p a b val table places w₀ i₀ w i = searched.Scanning image p val a b w i
 
 abbrev μ-loop : tie.MeasureT-loop
-μ-loop image p a b val table places from w₀ i₀ w i = b - i
-
-scan-start-requires : tie.Need-scan-start-requires Inv-loop μ-loop
-scan-start-requires c κs = let s = c .before in (s .pre .0 .opened, s .pre .1)
+μ-loop image p a b val table places w₀ i₀ w i = b - i
 
 begin-requires : tie.Need-begin-requires Inv-loop μ-loop
-begin-requires c κs = c .before .before .pre .0 .opened
+begin-requires c κs = c .before .pre .0 .opened
 
 loop-holds : tie.Need-loop-holds Inv-loop μ-loop
-loop-holds c = let s = c .before .before .before in searched.scan-begins (s .args .image .now) (s .pre .0 .opened .ok) (s .args .p) (s .pre .0 .opened .parts) (s .args .val) (s .args .a) (s .args .b) (s .pre .1) _ (c .before .scan-start .ensures) _ (c .begin .ensures .0) (c .begin .ensures .1)
+loop-holds c = let s = c .before .before in searched.scan-begins (s .args .image .now) (s .pre .0 .opened .ok) (s .args .p) (s .pre .0 .opened .parts) (s .args .val) (s .args .a) (s .args .b) (s .pre .1) _ (c .begin .ensures .0) (c .begin .ensures .1)
 
 take-requires : tie.Need-take-requires Inv-loop μ-loop
 take-requires c κs =
-    let s = c .before .before .before .before .before in
+    let s = c .before .before .before .before in
     let l = c .before .loop .inv in
     (record { ok = s .pre .0 .opened .ok; parts = s .pre .0 .opened .parts; rule = s .pre .0 .rule }, l .walking, omega (arith, l .number, s .pre .1 .upto, c .loop-test .taken))
 
 returns : tie.Need-returns Inv-loop μ-loop
 returns c =
-    let s = c .before .before .before .before .before .before .before in
+    let s = c .before .before .before .before .before .before in
     let l = c .before .before .before .loop in
     searched.scan-finds (s .args .image .now) (s .pre .0 .opened .ok) (s .args .p) (s .pre .0 .opened .parts) (s .args .val) (s .args .a) (s .args .b) (s .pre .1) (l .w) (l .i) (l .inv) (c .before .before .loop-test .taken) _ (c .before .take .ensures .2) (c .if1 .taken)
 
 returns-2 : tie.Need-returns-2 Inv-loop μ-loop
 returns-2 c =
-    let s = c .before .before .before .before .before .before .before .before in
+    let s = c .before .before .before .before .before .before .before in
     let l = c .before .before .before .before .loop in
     searched.scan-stops (s .args .image .now) (s .pre .0 .opened .ok) (s .args .p) (s .pre .0 .opened .parts) (s .args .val) (s .args .a) (s .args .b) (s .pre .1) (l .w) (l .i) (l .inv) (c .before .before .before .loop-test .taken) _ (c .before .before .take .ensures .2) (c .if2 .taken)
 
@@ -48,13 +45,13 @@ loop-less c = omega (arith, c .before .before .before .before .loop-test .taken)
 
 loop-again : tie.Need-loop-again Inv-loop μ-loop
 loop-again c =
-    let s = c .before .before .before .before .before .before .before .before .before in
+    let s = c .before .before .before .before .before .before .before .before in
     let l = c .before .before .before .before .before .loop in
     let t = c .before .before .before .take .ensures in
     searched.scan-goes-on (s .args .image .now) (s .pre .0 .opened .ok) (s .args .p) (s .pre .0 .opened .parts) (s .args .val) (s .args .a) (s .args .b) (s .pre .1) (l .w) (l .i) (l .inv) (c .before .before .before .before .loop-test .taken) _ (t .2) (c .before .before .if1 .left) _ (t .0) (t .1)
 
 returns-3 : tie.Need-returns-3 Inv-loop μ-loop
-returns-3 c = let s = c .before .before .before .before .before in let l = c .before .loop in searched.scan-ends (s .args .image .now) (s .pre .0 .opened .ok) (s .args .p) (s .pre .0 .opened .parts) (s .args .val) (s .args .a) (s .args .b) (s .pre .1) (l .w) (l .i) (l .inv) (c .loop-test .left)
+returns-3 c = let s = c .before .before .before .before in let l = c .before .loop in searched.scan-ends (s .args .image .now) (s .pre .0 .opened .ok) (s .args .p) (s .pre .0 .opened .parts) (s .args .val) (s .args .a) (s .args .b) (s .pre .1) (l .w) (l .i) (l .inv) (c .loop-test .left)
 
 pub scan-range-spec : {M : Type 1} → statement M
 scan-range-spec =
@@ -62,7 +59,6 @@ scan-range-spec =
     (tie.spec
     Inv-loop
     μ-loop
-    scan-start-requires
     begin-requires
     loop-holds
     take-requires
