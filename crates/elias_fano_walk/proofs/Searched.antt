@@ -1,7 +1,7 @@
 -- Search: the walk from the low end, the halving, and the answers. T is the list of times, and they do not fall. Assumes nothing.
-use mathlib.Core.Path.{_≡_, refl, sym, ap, ap₂, _∙_, subst, subst⁻¹}
+use mathlib.Core.Path.{_≡_, refl, sym, ap, ap₂, _∙_, subst, subst⁻¹, subst₂}
 use mathlib.Core.List.{List, _∷_}
-use mathlib.Core.Bool.{true, false}
+use mathlib.Core.Bool.{Bool, true, false, cond}
 use Prim.Native.Nat.{ℕ, zero, suc, _+_, _-_, _/_, _^_, _≤_, _<_}
 use native.Mathlib.Nat.{le-refl, le-of-eq, le-trans, lt-of-le-of-lt, lt-of-not-le, add-zero}
 use native.Mathlib.Numerals.{add-one}
@@ -116,6 +116,14 @@ module _ (i : List ℕ) (ok : accepted i ≡ true) (p : Parts) (ep : p ≡ parts
         ap (λ (y : ℕ). ltb y (v / 2 ^ p .«low_len»)) upper-is
         ∙ by-high (getD (times i) k 0) v (p .«low_len») (λ e. n (upper-is ∙ e)) (decLt (getD (times i) k 0) v)
 
+-- ---- a choice between two numbers
+
+pub chose-first : (t : Bool) (x y r : ℕ) → t ≡ true → r ≡ x → r ≡ cond t x y
+chose-first t x y r e h = h ∙ sym (ap (λ (b : Bool). cond b x y) e)
+
+pub chose-second : (t : Bool) (x y r : ℕ) → t ≡ false → r ≡ y → r ≡ cond t x y
+chose-second t x y r e h = h ∙ sym (ap (λ (b : Bool). cond b x y) e)
+
 -- ---- the loop
 
 -- the values from a on and below j are not v
@@ -136,16 +144,36 @@ module _ (i : List ℕ) (ok : accepted i ≡ true) (p : Parts) (ep : p ≡ parts
   pub halve-ends : ScanStart (times i) a b v a
   halve-ends = record { from = le-refl a; upto = g .some; less = λ j h m. omega arith }
 
-  -- the value with the number k is below v, and so are those before
-  pub goes-right : (k r : ℕ) → a ≤ k → k < b → ltb (getD (times i) k 0) v ≡ true → ScanStart (times i) k b v r → ScanStart (times i) a b v r
-  goes-right k r h kb l s = record { from = omega (arith, s .from); upto = s .upto; less = λ j m n. go j m (decLt j k) }
-    where
-      go : (j : ℕ) → j < r → Dec (j < k) → getD (times i) j 0 < v
-      go j m (yes q) = lt-of-le-of-lt (upto _ (times i) (images.is-fit i ok .rises) j k (omega arith) (omega (arith, up))) (ltb-true (getD (times i) k 0) v l)
-      go j m (no q) = s .less j m (omega (arith, lt-of-not-le q))
+  -- the part of the range that can hold the first v: from the number k on if that value is below v, else up to it
+  module _ (k : ℕ) (ak : a < k) (kb : k + 1 < b) where
+    abbrev low : Bool → ℕ
+    low t = cond t k a
 
-  pub goes-left : (k r : ℕ) → k < b → ScanStart (times i) a (k + 1) v r → ScanStart (times i) a b v r
-  goes-left k r kb s = record { from = s .from; upto = omega (arith, s .upto); less = s .less }
+    abbrev high : Bool → ℕ
+    high t = cond t b (k + 1)
+
+    part : (t : Bool) → Range p (low t) (high t) × (high t - low t < b - a)
+    part true = (record { some = omega arith; upto = g .upto }, omega arith)
+    part false = (record { some = omega arith; upto = omega (arith, g .upto) }, omega arith)
+
+    right : (r : ℕ) → getD (times i) k 0 < v → ScanStart (times i) k b v r → ScanStart (times i) a b v r
+    right r l s = record { from = omega (arith, s .from); upto = s .upto; less = λ j m n. go j m (decLt j k) }
+      where
+        go : (j : ℕ) → j < r → Dec (j < k) → getD (times i) j 0 < v
+        go j m (yes q) = lt-of-le-of-lt (upto _ (times i) (images.is-fit i ok .rises) j k (omega arith) (omega (arith, up))) l
+        go j m (no q) = s .less j m (omega (arith, lt-of-not-le q))
+
+    holds : (t : Bool) → t ≡ ltb (getD (times i) k 0) v → (r : ℕ) → ScanStart (times i) (low t) (high t) v r → ScanStart (times i) a b v r
+    holds true e r s = right r (ltb-true (getD (times i) k 0) v (sym e)) s
+    holds false e r s = record { from = s .from; upto = omega (arith, s .upto); less = s .less }
+
+    -- by what was chosen
+    module _ (t : Bool) (x y : ℕ) (ex : x ≡ low t) (ey : y ≡ high t) where
+      pub part-range : Range p x y × (y - x < b - a)
+      part-range = subst₂ (λ (l h : ℕ). Range p l h × (h - l < b - a)) (sym ex) (sym ey) (part t)
+
+      pub part-holds : t ≡ ltb (getD (times i) k 0) v → (r : ℕ) → ScanStart (times i) x y v r → ScanStart (times i) a b v r
+      part-holds e r s = holds t e r (subst₂ (λ (l h : ℕ). ScanStart (times i) l h v r) ex ey s)
 
   pub scan-begins : (w : Walk) → WalkOver i p w → w .number ≡ a → Scanning i p v a b w a
   scan-begins w h e = record { upto = omega (arith, g .some); walking = h; number = e; same = refl }

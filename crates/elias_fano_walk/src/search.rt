@@ -53,10 +53,10 @@ fn halve_range(image: &[u64], p: Parts, a: usize, b: usize, val: u64, table: &[u
     }
     let mid = (a + b) / 2;
     let k = mid / SUBBLOCK_LEN * SUBBLOCK_LEN;
-    if is_below(image, p, k, val, table) {
-        return halve_range(image, p, k, b, val, table);
-    }
-    halve_range(image, p, a, k + 1, val, table)
+    let below = is_below(image, p, k, val, table);
+    let from = if below { k } else { a };
+    let to = if below { b } else { k + 1 };
+    halve_range(image, p, from, to, val, table)
 }
 
 // The number of the first value from a on and below b that is val, or NOWHERE. The values do not fall, so it ends at the first that is not below val.

@@ -1,6 +1,6 @@
 -- The proof of the cycle of calls {halve_range}. The measure is what is left of the range. Assumes nothing.
 use borrow.Author.Needs.{needs}
-use mathlib.Core.Path.{sym, _∙_}
+use mathlib.Core.Logic.{⊎-elim}
 use native.Mathlib.Omega.{arith}
 use Rattle.elias_fano_walk.proofs.Searched as searched
 use Prim.Native.Nat.{ℕ, _-_, _<_}
@@ -64,6 +64,14 @@ halve-range-is-below-requires : (t : ℕ) → halve-range-lts.Need-is-below-requ
 ) (halve-range-at t) halve-range.Post
 halve-range-is-below-requires t c κs = let s = c .before .before in (s .pre .1 .0, omega (arith, s .pre .1 .1 .some, s .pre .1 .1 .upto))
 
+halve-range-add-to : (t : ℕ) → halve-range-lts.Need-add-to (
+  is-below-reads.Asked,
+  is-below-reads.Learnt,
+  halve-range-below t,
+  halve-range.Post,
+) (halve-range-at t) halve-range.Post
+halve-range-add-to t c = search needs
+
 halve-range-halve-range-requires : (t : ℕ) → halve-range-lts.Need-halve-range-requires (
   is-below-reads.Asked,
   is-below-reads.Learnt,
@@ -71,10 +79,12 @@ halve-range-halve-range-requires : (t : ℕ) → halve-range-lts.Need-halve-rang
   halve-range.Post,
 ) (halve-range-at t) halve-range.Post
 halve-range-halve-range-requires t c κs =
-    let s = c .before .before .before .before in
-    let h : 64 < s .args .b - s .args .a = c .before .before .if1 .left in
-    let u = s .pre .1 .1 .upto in
-    (omega (arith, s .pre .0), (s .pre .1 .0, record { some = omega arith; upto = omega arith }))
+    let s = c .before .before .before .before .before in
+    let h : 64 < s .args .b - s .args .a = c .before .before .before .if1 .left in
+    let e = ⊎-elim (λ w. searched.chose-first _ _ _ _ (w .0 .taken) (w .1)) (λ w. searched.chose-second _ _ _ _ (w .0 .left) (w .1)) (c .before .if2 .came) in
+    let f = ⊎-elim (λ w. searched.chose-first _ _ _ _ (w .0 .taken) (w .1)) (λ w. searched.chose-second _ _ _ _ (w .0 .left) (w .1)) (c .if3 .came) in
+    let part = searched.part-range (s .args .image .now) (s .pre .1 .0 .ok) (s .args .p) (s .pre .1 .0 .parts) (s .args .val) (s .args .a) (s .args .b) (s .pre .1 .1) _ (omega arith) (omega arith) (c .before .before .is-below .result) _ _ e f in
+    (omega (arith, s .pre .0, part .1), (s .pre .1 .0, part .0))
 
 halve-range-returns-2 : (t : ℕ) → halve-range-lts.Need-returns-2 (
   is-below-reads.Asked,
@@ -83,40 +93,11 @@ halve-range-returns-2 : (t : ℕ) → halve-range-lts.Need-returns-2 (
   halve-range.Post,
 ) (halve-range-at t) halve-range.Post
 halve-range-returns-2 t c =
-    let s = c .before .before .before .before .before in
-    let h : 64 < s .args .b - s .args .a = c .before .before .before .if1 .left in
-    searched.goes-right (s .args .image .now) (s .pre .1 .0 .ok) (s .args .p) (s .pre .1 .0 .parts) (s .args .val) (s .args .a) (s .args .b) (s .pre .1 .1) _ _ (omega arith) (omega arith) (sym (c .before .before .is-below .ensures) ∙ c .before .if2 .taken) (c .halve-range .ensures)
-
-halve-range-add-halve-range : (t : ℕ) → halve-range-lts.Need-add-halve-range (
-  is-below-reads.Asked,
-  is-below-reads.Learnt,
-  halve-range-below t,
-  halve-range.Post,
-) (halve-range-at t) halve-range.Post
-halve-range-add-halve-range t c = search needs
-
-halve-range-halve-range-requires-2 : (t : ℕ) → halve-range-lts.Need-halve-range-requires-2 (
-  is-below-reads.Asked,
-  is-below-reads.Learnt,
-  halve-range-below t,
-  halve-range.Post,
-) (halve-range-at t) halve-range.Post
-halve-range-halve-range-requires-2 t c κs =
-    let s = c .before .before .before .before in
-    let h : 64 < s .args .b - s .args .a = c .before .before .if1 .left in
-    let u = s .pre .1 .1 .upto in
-    (omega (arith, s .pre .0), (s .pre .1 .0, record { some = omega arith; upto = omega arith }))
-
-halve-range-returns-3 : (t : ℕ) → halve-range-lts.Need-returns-3 (
-  is-below-reads.Asked,
-  is-below-reads.Learnt,
-  halve-range-below t,
-  halve-range.Post,
-) (halve-range-at t) halve-range.Post
-halve-range-returns-3 t c =
-    let s = c .before .before .before .before .before in
-    let h : 64 < s .args .b - s .args .a = c .before .before .before .if1 .left in
-    searched.goes-left (s .args .image .now) (s .pre .1 .0 .ok) (s .args .p) (s .pre .1 .0 .parts) (s .args .val) (s .args .a) (s .args .b) (s .pre .1 .1) _ _ (omega arith) (c .halve-range2 .ensures)
+    let s = c .before .before .before .before .before .before in
+    let h : 64 < s .args .b - s .args .a = c .before .before .before .before .if1 .left in
+    let e = ⊎-elim (λ w. searched.chose-first _ _ _ _ (w .0 .taken) (w .1)) (λ w. searched.chose-second _ _ _ _ (w .0 .left) (w .1)) (c .before .before .if2 .came) in
+    let f = ⊎-elim (λ w. searched.chose-first _ _ _ _ (w .0 .taken) (w .1)) (λ w. searched.chose-second _ _ _ _ (w .0 .left) (w .1)) (c .before .if3 .came) in
+    searched.part-holds (s .args .image .now) (s .pre .1 .0 .ok) (s .args .p) (s .pre .1 .0 .parts) (s .args .val) (s .args .a) (s .args .b) (s .pre .1 .1) _ (omega arith) (omega arith) (c .before .before .before .is-below .result) _ _ e f (c .before .before .before .is-below .ensures) _ (c .halve-range .ensures)
 
 pub +halve-range-spec : {M : Type 1} → statement M
 +halve-range-spec = close μ-halve-range λ t. halve-range-lts.spec (
@@ -132,8 +113,6 @@ pub +halve-range-spec : {M : Type 1} → statement M
     (halve-range-add-mid t)
     (halve-range-mul-k t)
     (halve-range-is-below-requires t)
+    (halve-range-add-to t)
     (halve-range-halve-range-requires t)
     (halve-range-returns-2 t)
-    (halve-range-add-halve-range t)
-    (halve-range-halve-range-requires-2 t)
-    (halve-range-returns-3 t)
