@@ -1,3 +1,4 @@
+pub mod Halved
 pub mod Lows
 pub mod Reading
 pub mod Searched

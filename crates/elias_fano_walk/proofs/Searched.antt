@@ -24,6 +24,7 @@ use Rattle.elias_fano.proofs.Selecting as selecting
 use Rattle.elias_fano_walk.specs.declared.walk.Walk.{Walk}
 use Rattle.elias_fano_walk.specs.Searching.{Range, ScanStart, ofSpot}
 use Rattle.elias_fano_walk.specs.Walking.{WalkOver}
+use Rattle.elias_fano_walk.proofs.Halved.{in-list, few}
 
 -- ---- the first from a number on
 
@@ -85,45 +86,6 @@ pub spot-some : (r : ℕ) → (r ≡ 2 ^ 64 - 1 → ⊥) → ofSpot r ≡ value 
 unfolding ofSpot
 spot-some r n = simp (ne-eqb r (2 ^ 64 - 1) n)
 
--- ---- values in order, and compared by their high bits
-
-module _ (u : ℕ) (T : List ℕ) (r : rising u 0 T ≡ true) where
-  climbs : (d j : ℕ) → j + d < length T → getD T j 0 ≤ getD T (j + d) 0
-  climbs zero j h = le-of-eq (ap (λ (k : ℕ). getD T k 0) (sym (add-zero j)))
-  climbs (suc d) j h =
-      let e : j + suc d ≡ j + d + 1 = omega arith in
-      le-trans (climbs d j (omega arith)) (subst⁻¹ (λ (k : ℕ). getD T (j + d) 0 ≤ getD T k 0) e (rising-le u T (j + d) r (omega arith)))
-
-  upto : (j k : ℕ) → j ≤ k → k < length T → getD T j 0 ≤ getD T k 0
-  upto j k h l = let e : j + (k - j) ≡ k = omega arith in subst (λ (n : ℕ). getD T j 0 ≤ getD T n 0) e (climbs (k - j) j (omega arith))
-
--- high bits that differ tell which number is below
-by-high : (x v s : ℕ) → (x / 2 ^ s ≡ v / 2 ^ s → ⊥) → Dec (x < v) → ltb (x / 2 ^ s) (v / 2 ^ s) ≡ ltb x v
-by-high x v s n (yes l) =
-    let m : x / 2 ^ s ≤ v / 2 ^ s = shr-mono s (omega arith) in
-    lt-ltb (x / 2 ^ s) (v / 2 ^ s) (lt-of-not-le (λ (g : v / 2 ^ s ≤ x / 2 ^ s). n (omega arith))) ∙ sym (lt-ltb x v l)
-by-high x v s n (no g) =
-    let h : v ≤ x = omega (arith, lt-of-not-le g) in
-    le-ltb (x / 2 ^ s) (v / 2 ^ s) (shr-mono s h) ∙ sym (le-ltb x v h)
-
-module _ (i : List ℕ) (ok : accepted i ≡ true) (p : Parts) (ep : p ≡ partsOf i) where
-  module _ (v k x : ℕ) (o : OneAt i p k x) where
-    upper-is : x - k ≡ getD (times i) k 0 / 2 ^ p .«low_len»
-    upper-is = selecting.upper i ok p ep k (o .below) x (o .place) ∙ ap (λ (l : ℕ). getD (times i) k 0 / 2 ^ l) (sym (selecting.low-len-is i ok p ep))
-
-    pub upper-tells : (x - k ≡ v / 2 ^ p .«low_len» → ⊥) → ltb (x - k) (v / 2 ^ p .«low_len») ≡ ltb (getD (times i) k 0) v
-    upper-tells n =
-        ap (λ (y : ℕ). ltb y (v / 2 ^ p .«low_len»)) upper-is
-        ∙ by-high (getD (times i) k 0) v (p .«low_len») (λ e. n (upper-is ∙ e)) (decLt (getD (times i) k 0) v)
-
--- ---- a choice between two numbers
-
-pub chose-first : (t : Bool) (x y r : ℕ) → t ≡ true → r ≡ x → r ≡ cond t x y
-chose-first t x y r e h = h ∙ sym (ap (λ (b : Bool). cond b x y) e)
-
-pub chose-second : (t : Bool) (x y r : ℕ) → t ≡ false → r ≡ y → r ≡ cond t x y
-chose-second t x y r e h = h ∙ sym (ap (λ (b : Bool). cond b x y) e)
-
 -- ---- the loop
 
 -- the values from a on and below j are not v
@@ -135,45 +97,7 @@ pub record Scanning (i : List ℕ) (p : Parts) (v a b : ℕ) (w : Walk) (j : ℕ
 
 module _ (i : List ℕ) (ok : accepted i ≡ true) (p : Parts) (ep : p ≡ partsOf i) (v a b : ℕ) (g : Range p a b) where
   up : b ≤ length (times i)
-  up = subst (λ (y : ℕ). b ≤ y) (selecting.pushed-is i ok p ep) (g .upto)
-
-  -- no sum of two numbers of values leaves a word
-  pub few : b ≤ 2 ^ 32
-  few = let f = images.is-fit i ok in omega (arith, up, f .few, f .most)
-
-  pub halve-ends : ScanStart (times i) a b v a
-  halve-ends = record { from = le-refl a; upto = g .some; less = λ j h m. omega arith }
-
-  -- the part of the range that can hold the first v: from the number k on if that value is below v, else up to it
-  module _ (k : ℕ) (ak : a < k) (kb : k + 1 < b) where
-    abbrev low : Bool → ℕ
-    low t = cond t k a
-
-    abbrev high : Bool → ℕ
-    high t = cond t b (k + 1)
-
-    part : (t : Bool) → Range p (low t) (high t) × (high t - low t < b - a)
-    part true = (record { some = omega arith; upto = g .upto }, omega arith)
-    part false = (record { some = omega arith; upto = omega (arith, g .upto) }, omega arith)
-
-    right : (r : ℕ) → getD (times i) k 0 < v → ScanStart (times i) k b v r → ScanStart (times i) a b v r
-    right r l s = record { from = omega (arith, s .from); upto = s .upto; less = λ j m n. go j m (decLt j k) }
-      where
-        go : (j : ℕ) → j < r → Dec (j < k) → getD (times i) j 0 < v
-        go j m (yes q) = lt-of-le-of-lt (upto _ (times i) (images.is-fit i ok .rises) j k (omega arith) (omega (arith, up))) l
-        go j m (no q) = s .less j m (omega (arith, lt-of-not-le q))
-
-    holds : (t : Bool) → t ≡ ltb (getD (times i) k 0) v → (r : ℕ) → ScanStart (times i) (low t) (high t) v r → ScanStart (times i) a b v r
-    holds true e r s = right r (ltb-true (getD (times i) k 0) v (sym e)) s
-    holds false e r s = record { from = s .from; upto = omega (arith, s .upto); less = s .less }
-
-    -- by what was chosen
-    module _ (t : Bool) (x y : ℕ) (ex : x ≡ low t) (ey : y ≡ high t) where
-      pub part-range : Range p x y × (y - x < b - a)
-      part-range = subst₂ (λ (l h : ℕ). Range p l h × (h - l < b - a)) (sym ex) (sym ey) (part t)
-
-      pub part-holds : t ≡ ltb (getD (times i) k 0) v → (r : ℕ) → ScanStart (times i) x y v r → ScanStart (times i) a b v r
-      part-holds e r s = holds t e r (subst₂ (λ (l h : ℕ). ScanStart (times i) l h v r) ex ey s)
+  up = in-list i ok p ep v a b g
 
   pub scan-begins : (w : Walk) → WalkOver i p w → w .number ≡ a → Scanning i p v a b w a
   scan-begins w h e = record { upto = omega (arith, g .some); walking = h; number = e; same = refl }
@@ -187,7 +111,7 @@ module _ (i : List ℕ) (ok : accepted i ≡ true) (p : Parts) (ep : p ≡ parts
       at = e ∙ ap (λ (n : ℕ). getD (times i) n 0) (s .number)
 
       pub scan-finds : x ≡ v → ofSpot j ≡ firstFrom v (times i) b a
-      scan-finds h = spot-some j (let k = few in λ e. omega arith) ∙ sym (s .same ∙ first-here v (times i) b up j l (sym at ∙ h))
+      scan-finds h = spot-some j (let k = few i ok p ep v a b g in λ e. omega arith) ∙ sym (s .same ∙ first-here v (times i) b up j l (sym at ∙ h))
 
       pub scan-stops : v < x → ofSpot (2 ^ 64 - 1) ≡ firstFrom v (times i) b a
       scan-stops h = spot-none (2 ^ 64 - 1) refl ∙ sym (s .same ∙ first-past v (times i) _ (images.is-fit i ok .rises) b up j (subst (λ (y : ℕ). v < y) at h))
@@ -215,7 +139,7 @@ module _ (i : List ℕ) (ok : accepted i ≡ true) (p : Parts) (ep : p ≡ parts
   pub search-found : (a b : ℕ) → Range p a b → (r : ℕ) → ScanStart (times i) a b v r → (x : Answer) → x ≡ firstFrom v (times i) b r → x ≡ asked i (BinsearchRange a b v)
   unfolding ask searched
   search-found a b g r s x e =
-      let h = up i ok p ep v a b g in
+      let h = in-list i ok p ep v a b g in
       e ∙ sym (first-skip v (times i) b h a r (s .from) (omega (arith, s .upto)) (s .less)) ∙ sym (simp (lt-leb b a (g .some), le-ltb (length (times i)) b h))
 
   pub search-all : (r : Answer) → r ≡ asked i (BinsearchRange 0 (p .«num_pushed») v) → r ≡ asked i (Binsearch v)

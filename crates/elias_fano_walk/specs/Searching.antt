@@ -2,11 +2,12 @@
 use mathlib.Core.Path.{_≡_}
 use mathlib.Core.List.{List}
 use mathlib.Core.Bool.{cond}
-use Prim.Native.Nat.{ℕ, _-_, _^_, _≤_, _<_}
+use Prim.Native.Nat.{ℕ, _+_, _-_, _^_, _≤_, _<_}
 use lib.Dec.{eqb}
 use lib.ListN.{getD}
 use Rattle.errors.specs.Answer.{Answer, value, none}
-use Rattle.broadword.specs.Places.{Debruijn64}
+use Rattle.broadword.specs.Places.{Debruijn64, select}
+use Rattle.broadword.specs.declared.Found.the-variants.{At}
 use Rattle.elias_fano.specs.declared.image.Parts.{Parts}
 use Rattle.elias_fano.specs.Opening.{Open}
 
@@ -19,6 +20,12 @@ pub record Searchable (i : List ℕ) (p : Parts) (table places : List ℕ) : Typ
 pub record Range (p : Parts) (a b : ℕ) : Type 0 where
   pub some : a < b
   pub upto : b ≤ p .«num_pushed»
+
+-- a number of the range from a on and below b; the ones of the range before it, of the bits f, have fewer than h zeros before them
+pub record HighStart (f : ℕ → ℕ) (len h a b r : ℕ) : Type 0 where
+  pub from : a ≤ r
+  pub upto : r < b
+  pub less : (j x : ℕ) → j < r → a ≤ j → select f len j ≡ At x → x < j + h
 
 -- a number of the range from a on and below b; the values of the range before it are below v
 pub record ScanStart (T : List ℕ) (a b v r : ℕ) : Type 0 where

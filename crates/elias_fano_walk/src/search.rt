@@ -3,24 +3,26 @@
 // The ones with every 32nd number are found by the index without a look at the high words. So the halving compares the value with such a number
 // at its middle or next before it.
 ghost use mathlib.Core.Path.{_≡_};
-ghost use Prim.Native.Nat.{_-_, _<_};
-ghost use lib.Dec.{ltb};
+ghost use mathlib.Core.Bool.{true};
+ghost use Prim.Native.Nat.{_-_, _^_, _≤_, _<_};
 ghost use lib.ListN.{getD, take as takeList, drop};
+ghost use Rattle.bit_words.specs.Vector.{bitOver};
+ghost use Rattle.darray.specs.Select.{Indexed};
 ghost use Rattle.elias_fano.specs.Accept.{times, ofNumber};
 ghost use Rattle.elias_fano.specs.Ask.{Binsearch, BinsearchRange, firstIndex, asked, query};
 ghost use Rattle.elias_fano.specs.Opening.{Open};
-ghost use Rattle.elias_fano_walk.specs.Searching.{Range, Searchable, ScanStart, ofSpot};
+ghost use Rattle.elias_fano_walk.specs.Searching.{Range, Searchable, HighStart, ScanStart, ofSpot};
 use crate::walk::begin;
 use crate::walk::take;
 use broadword::debruijn64_table;
 use broadword::select_in_byte_table;
+use darray::select::select_within;
 use darray_positions::scan::SUBBLOCK_LEN;
 use elias_fano::image::Number;
 use elias_fano::image::Opened;
 use elias_fano::image::Parts;
-use elias_fano::image::one_at;
 use elias_fano::image::open;
-use elias_fano::image::value_at;
+use elias_fano::image::value_of;
 use errors::Refusal;
 
 const LINEAR_SCAN_THRESHOLD: usize = 64;
@@ -28,22 +30,38 @@ const LINEAR_SCAN_THRESHOLD: usize = 64;
 // What the halving and the scan answer where no value is val: an answer of one word comes back in a register, however deep the calls.
 const NOWHERE: usize = usize::MAX;
 
-// Whether the value with the number k, which there is, is below val: mostly the high bits tell.
-fn is_below(image: &[u64], p: Parts, k: usize, val: u64, table: &[u8; 2048]) -> bool
-    requires { ⌜ (Open (now image) p (now table) × (k < p .«num_pushed»)) ⌝ }
-    ensures { λ r. ⌜ r ≡ ltb (getD (times (now (image .entry))) k 0) val ⌝ }
+// Where a scan can start for the first value whose high bits are at least `wanted`, from a on and below b: those before have fewer zeros before
+// their ones. It calls itself on the part that can hold the first: from the number compared on where that one has fewer, else up to it. 64 or fewer are
+// left to the scan. The part is chosen without a branch, which would be guessed wrong half the time; and references to slices keep what each call
+// takes to single words, so that the compiler makes a loop of it.
+fn halve_high(
+    high: &&[u64],
+    len: usize,
+    index: &&[u64],
+    positions: usize,
+    wanted: usize,
+    a: usize,
+    b: usize,
+    table: &[u8; 2048],
+) -> usize
+    requires { ⌜ (Indexed (now (now high)) len true (now (now index)) positions (now table) × (a < b) × (b ≤ positions) × (b ≤ 2 ^ 32)) ⌝ }
+    ensures { λ r. ⌜ HighStart (bitOver true (now (now (high .entry)))) len wanted a b r ⌝ }
 {
-    let place = one_at(image, p, k, table);
-    let upper = (place - k) as u64;
-    let wanted = val >> p.low_len;
-    if upper == wanted {
-        return value_at(image, p, k, place) < val;
+    if b - a <= LINEAR_SCAN_THRESHOLD {
+        return a;
     }
-    upper < wanted
+    let mid = (a + b) / 2;
+    let k = mid / SUBBLOCK_LEN * SUBBLOCK_LEN;
+    let words = *high;
+    let ones = *index;
+    let place = select_within(words, len, true, ones, positions, table, k);
+    let below = place - k < wanted;
+    let from = if below { k } else { a };
+    let to = if below { b } else { k + 1 };
+    halve_high(high, len, index, positions, wanted, from, to, table)
 }
 
-// Where a scan for the first val from a on and below b can start: the values before are below val. It calls itself on the part that can hold the
-// first: from the number compared on where that value is below, else up to it, also where it is val. 64 or fewer are left to the scan.
+// Where a scan for the first val from a on and below b can start: the values before are below val. It calls itself as `halve_high` does, by whole values.
 fn halve_range(image: &[u64], p: Parts, a: usize, b: usize, val: u64, table: &[u8; 2048]) -> usize
     requires { ⌜ (Open (now image) p (now table) × Range p a b) ⌝ }
     ensures { λ r. ⌜ ScanStart (times (now (image .entry))) a b val r ⌝ }
@@ -53,10 +71,41 @@ fn halve_range(image: &[u64], p: Parts, a: usize, b: usize, val: u64, table: &[u
     }
     let mid = (a + b) / 2;
     let k = mid / SUBBLOCK_LEN * SUBBLOCK_LEN;
-    let below = is_below(image, p, k, val, table);
-    let from = if below { k } else { a };
-    let to = if below { b } else { k + 1 };
-    halve_range(image, p, from, to, val, table)
+    if value_of(image, p, k, table) < val {
+        return halve_range(image, p, k, b, val, table);
+    }
+    halve_range(image, p, a, k + 1, val, table)
+}
+
+// The same by the high bits of val alone.
+fn high_start(image: &[u64], p: Parts, a: usize, b: usize, val: u64, table: &[u8; 2048]) -> usize
+    requires { ⌜ (Open (now image) p (now table) × Range p a b) ⌝ }
+    ensures { λ r. ⌜ ScanStart (times (now (image .entry))) a b val r ⌝ }
+{
+    let low_at = p.low_at;
+    let ones_at = p.ones_at;
+    let zeros_at = p.zeros_at;
+    let high = &image[6..low_at];
+    let index = &image[ones_at..zeros_at];
+    let wanted = (val >> p.low_len) as usize;
+    halve_high(&high, p.high_len, &index, p.num_pushed as usize, wanted, a, b, table)
+}
+
+// The same. High bits come first, so that no low word is read in a run of equal values. They do not tell where many values with the high bits of val are
+// below it: then the rest is halved by whole values.
+fn scan_start(image: &[u64], p: Parts, a: usize, b: usize, val: u64, table: &[u8; 2048]) -> usize
+    requires { ⌜ (Open (now image) p (now table) × Range p a b) ⌝ }
+    ensures { λ r. ⌜ ScanStart (times (now (image .entry))) a b val r ⌝ }
+{
+    let from = high_start(image, p, a, b, val, table);
+    if b - from <= SUBBLOCK_LEN {
+        return from;
+    }
+    let k = from + SUBBLOCK_LEN;
+    if value_of(image, p, k, table) < val {
+        return halve_range(image, p, k, b, val, table);
+    }
+    from
 }
 
 // The number of the first value from a on and below b that is val, or NOWHERE. The values do not fall, so it ends at the first that is not below val.
@@ -109,7 +158,7 @@ pub fn binsearch_range_opened(
     if b > p.num_pushed as usize {
         return Number::Refused(Refusal::RangeOutOfBounds);
     }
-    let from = halve_range(image, p, a, b, val, table);
+    let from = scan_start(image, p, a, b, val, table);
     let found = scan_range(image, p, from, b, val, table, places);
     if found == NOWHERE {
         return Number::Nothing;

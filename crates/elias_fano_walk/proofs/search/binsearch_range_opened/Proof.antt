@@ -12,8 +12,8 @@ returns c = let s = c .before .before in searched.search-empty (s .args .image .
 returns-2 : tie.Need-returns-2
 returns-2 c = let s = c .before .before .before in searched.search-refused (s .args .image .now) (s .pre .opened .ok) (s .args .p) (s .pre .opened .parts) (s .args .val) (s .args .a) (s .args .b) (c .before .if1 .left) (c .if2 .taken)
 
-halve-range-requires : tie.Need-halve-range-requires
-halve-range-requires c κs = search needs
+scan-start-requires : tie.Need-scan-start-requires
+scan-start-requires c κs = search needs
 
 scan-range-requires : tie.Need-scan-range-requires
 scan-range-requires c κs = search needs
@@ -21,12 +21,12 @@ scan-range-requires c κs = search needs
 returns-3 : tie.Need-returns-3
 returns-3 c =
     let s = c .before .before .before .before .before .before in
-    searched.search-found (s .args .image .now) (s .pre .opened .ok) (s .args .p) (s .pre .opened .parts) (s .args .val) (s .args .a) (s .args .b) (record { some = c .before .before .before .before .if1 .left; upto = c .before .before .before .if2 .left }) _ (c .before .before .halve-range .ensures) _ (sym (searched.spot-none _ (c .if3 .taken)) ∙ c .before .scan-range .ensures)
+    searched.search-found (s .args .image .now) (s .pre .opened .ok) (s .args .p) (s .pre .opened .parts) (s .args .val) (s .args .a) (s .args .b) (record { some = c .before .before .before .before .if1 .left; upto = c .before .before .before .if2 .left }) _ (c .before .before .scan-start .ensures) _ (sym (searched.spot-none _ (c .if3 .taken)) ∙ c .before .scan-range .ensures)
 
 returns-4 : tie.Need-returns-4
 returns-4 c =
     let s = c .before .before .before .before .before .before in
-    searched.search-found (s .args .image .now) (s .pre .opened .ok) (s .args .p) (s .pre .opened .parts) (s .args .val) (s .args .a) (s .args .b) (record { some = c .before .before .before .before .if1 .left; upto = c .before .before .before .if2 .left }) _ (c .before .before .halve-range .ensures) _ (sym (searched.spot-some _ (c .if3 .left)) ∙ c .before .scan-range .ensures)
+    searched.search-found (s .args .image .now) (s .pre .opened .ok) (s .args .p) (s .pre .opened .parts) (s .args .val) (s .args .a) (s .args .b) (record { some = c .before .before .before .before .if1 .left; upto = c .before .before .before .if2 .left }) _ (c .before .before .scan-start .ensures) _ (sym (searched.spot-some _ (c .if3 .left)) ∙ c .before .scan-range .ensures)
 
 pub binsearch-range-opened-spec : {M : Type 1} → statement M
-binsearch-range-opened-spec = tie.close (tie.spec returns returns-2 halve-range-requires scan-range-requires returns-3 returns-4)
+binsearch-range-opened-spec = tie.close (tie.spec returns returns-2 scan-start-requires scan-range-requires returns-3 returns-4)
