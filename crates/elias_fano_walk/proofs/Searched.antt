@@ -1,16 +1,14 @@
 -- Search: the walk from the low end, the halving, and the answers. T is the list of times, and they do not fall. Assumes nothing.
-use mathlib.Core.Path.{_≡_, refl, sym, ap, ap₂, _∙_, subst, subst⁻¹, subst₂}
+use mathlib.Core.Path.{_≡_, refl, sym, ap, ap₂, _∙_, subst}
 use mathlib.Core.List.{List, _∷_}
-use mathlib.Core.Bool.{Bool, true, false, cond}
-use Prim.Native.Nat.{ℕ, zero, suc, _+_, _-_, _/_, _^_, _≤_, _<_}
-use native.Mathlib.Nat.{le-refl, le-of-eq, le-trans, lt-of-le-of-lt, lt-of-not-le, add-zero}
+use mathlib.Core.Bool.{true}
+use Prim.Native.Nat.{ℕ, zero, suc, _+_, _-_, _≤_, _<_}
+use native.Mathlib.Nat.{le-refl, lt-of-not-le}
 use native.Mathlib.Numerals.{add-one}
-use native.Mathlib.Decide.{ℕ-discrete, decLt}
+use native.Mathlib.Decide.{decLt}
 use native.Mathlib.Omega.{arith}
-use borrow.Author.Tests.{ltb-true, ltb-false, le-ltb, lt-ltb, le-leb, lt-leb, eq-eqb, ne-eqb}
-use lib.Dec.{ltb}
+use borrow.Author.Tests.{le-ltb, lt-ltb, le-leb, lt-leb, eq-eqb, ne-eqb}
 use lib.ListN.{length, getD, take, drop}
-use lib.Pow.{shr-mono}
 use lib.Seq.{drop-cons}
 use Rattle.errors.specs.Answer.{Answer, value, none, refused}
 use Rattle.elias_fano_words.specs.Times.{rising}
@@ -18,13 +16,12 @@ use Rattle.elias_fano_words.proofs.Rising.{rising-le}
 use Rattle.elias_fano.specs.declared.image.Parts.{Parts}
 use Rattle.elias_fano.specs.Accept.{times, accepted, partsOf}
 use Rattle.elias_fano.specs.Ask.{Binsearch, BinsearchRange, firstIndex, searched, ask, asked}
-use Rattle.elias_fano.specs.Opening.{OneAt}
 use Rattle.elias_fano.proofs.Images as images
 use Rattle.elias_fano.proofs.Selecting as selecting
 use Rattle.elias_fano_walk.specs.declared.walk.Walk.{Walk}
-use Rattle.elias_fano_walk.specs.Searching.{Range, ScanStart, ofSpot}
+use Rattle.elias_fano_walk.specs.Searching.{Range, ScanStart}
 use Rattle.elias_fano_walk.specs.Walking.{WalkOver}
-use Rattle.elias_fano_walk.proofs.Halved.{in-list, few}
+use Rattle.elias_fano_walk.proofs.Halved.{in-list}
 
 -- ---- the first from a number on
 
@@ -76,16 +73,6 @@ module _ (v : ℕ) (T : List ℕ) where
       first-past : (j : ℕ) → v < getD T j 0 → firstFrom v T b j ≡ none
       first-past j g = past (b - j) j (le-refl (b - j)) (λ _. g)
 
--- ---- an answer in one word
-
-pub spot-none : (r : ℕ) → r ≡ 2 ^ 64 - 1 → ofSpot r ≡ none
-unfolding ofSpot
-spot-none r e = simp (eq-eqb r (2 ^ 64 - 1) e)
-
-pub spot-some : (r : ℕ) → (r ≡ 2 ^ 64 - 1 → ⊥) → ofSpot r ≡ value r
-unfolding ofSpot
-spot-some r n = simp (ne-eqb r (2 ^ 64 - 1) n)
-
 -- ---- the loop
 
 -- the values from a on and below j are not v
@@ -103,18 +90,18 @@ module _ (i : List ℕ) (ok : accepted i ≡ true) (p : Parts) (ep : p ≡ parts
   scan-begins w h e = record { upto = omega (arith, g .some); walking = h; number = e; same = refl }
 
   module _ (w : Walk) (j : ℕ) (s : Scanning i p v a b w j) where
-    pub scan-ends : b ≤ j → ofSpot (2 ^ 64 - 1) ≡ firstFrom v (times i) b a
-    scan-ends h = spot-none (2 ^ 64 - 1) refl ∙ sym (s .same ∙ first-end v (times i) b up j h)
+    pub scan-ends : b ≤ j → none ≡ firstFrom v (times i) b a
+    scan-ends h = sym (s .same ∙ first-end v (times i) b up j h)
 
     module _ (l : j < b) (x : ℕ) (e : x ≡ getD (times i) (w .number) 0) where
       at : x ≡ getD (times i) j 0
       at = e ∙ ap (λ (n : ℕ). getD (times i) n 0) (s .number)
 
-      pub scan-finds : x ≡ v → ofSpot j ≡ firstFrom v (times i) b a
-      scan-finds h = spot-some j (let k = few i ok p ep v a b g in λ e. omega arith) ∙ sym (s .same ∙ first-here v (times i) b up j l (sym at ∙ h))
+      pub scan-finds : x ≡ v → value j ≡ firstFrom v (times i) b a
+      scan-finds h = sym (s .same ∙ first-here v (times i) b up j l (sym at ∙ h))
 
-      pub scan-stops : v < x → ofSpot (2 ^ 64 - 1) ≡ firstFrom v (times i) b a
-      scan-stops h = spot-none (2 ^ 64 - 1) refl ∙ sym (s .same ∙ first-past v (times i) _ (images.is-fit i ok .rises) b up j (subst (λ (y : ℕ). v < y) at h))
+      pub scan-stops : v < x → none ≡ firstFrom v (times i) b a
+      scan-stops h = sym (s .same ∙ first-past v (times i) _ (images.is-fit i ok .rises) b up j (subst (λ (y : ℕ). v < y) at h))
 
       pub scan-goes-on : (x ≡ v → ⊥) → (w′ : Walk) → WalkOver i p w′ → w′ .number ≡ suc (w .number) → Scanning i p v a b w′ (j + 1)
       scan-goes-on n w′ h k = record {

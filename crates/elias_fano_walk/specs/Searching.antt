@@ -1,11 +1,8 @@
 -- What the search in an opened image demands. i is an image. Assumes nothing.
 use mathlib.Core.Path.{_≡_}
 use mathlib.Core.List.{List}
-use mathlib.Core.Bool.{cond}
-use Prim.Native.Nat.{ℕ, _+_, _-_, _^_, _≤_, _<_}
-use lib.Dec.{eqb}
+use Prim.Native.Nat.{ℕ, _+_, _≤_, _<_}
 use lib.ListN.{getD}
-use Rattle.errors.specs.Answer.{Answer, value, none}
 use Rattle.broadword.specs.Places.{Debruijn64, select}
 use Rattle.broadword.specs.declared.Found.the-variants.{At}
 use Rattle.elias_fano.specs.declared.image.Parts.{Parts}
@@ -32,7 +29,3 @@ pub record ScanStart (T : List ℕ) (a b v r : ℕ) : Type 0 where
   pub from : a ≤ r
   pub upto : r < b
   pub less : (j : ℕ) → j < r → a ≤ j → getD T j 0 < v
-
--- the number of a value, or NOWHERE, as an answer
-unfoldable pub ofSpot : ℕ → Answer
-ofSpot r = cond (eqb r (2 ^ 64 - 1)) none (value r)

@@ -1,17 +1,17 @@
 // Search for the first of equal values: halving, and a walk once 64 or fewer remain.
 //
-// The ones with every 32nd number are found by the index without a look at the high words. So the halving compares the value with such a number
-// at its middle or next before it.
+// The ones with every 32nd number are found by the index without a look at the high words. So the halving compares the one with such a number, at its
+// middle or next before.
 ghost use mathlib.Core.Path.{_≡_};
 ghost use mathlib.Core.Bool.{true};
 ghost use Prim.Native.Nat.{_-_, _^_, _≤_, _<_};
-ghost use lib.ListN.{getD, take as takeList, drop};
+ghost use lib.ListN.{take as takeList, drop};
 ghost use Rattle.bit_words.specs.Vector.{bitOver};
 ghost use Rattle.darray.specs.Select.{Indexed};
 ghost use Rattle.elias_fano.specs.Accept.{times, ofNumber};
 ghost use Rattle.elias_fano.specs.Ask.{Binsearch, BinsearchRange, firstIndex, asked, query};
 ghost use Rattle.elias_fano.specs.Opening.{Open};
-ghost use Rattle.elias_fano_walk.specs.Searching.{Range, Searchable, HighStart, ScanStart, ofSpot};
+ghost use Rattle.elias_fano_walk.specs.Searching.{Range, Searchable, HighStart, ScanStart};
 use crate::walk::begin;
 use crate::walk::take;
 use broadword::debruijn64_table;
@@ -27,13 +27,11 @@ use errors::Refusal;
 
 const LINEAR_SCAN_THRESHOLD: usize = 64;
 
-// What the halving and the scan answer where no value is val: an answer of one word comes back in a register, however deep the calls.
-const NOWHERE: usize = usize::MAX;
-
-// Where a scan can start for the first value whose high bits are at least `wanted`, from a on and below b: those before have fewer zeros before
-// their ones. It calls itself on the part that can hold the first: from the number compared on where that one has fewer, else up to it. 64 or fewer are
-// left to the scan. The part is chosen without a branch, which would be guessed wrong half the time; and references to slices keep what each call
-// takes to single words, so that the compiler makes a loop of it.
+// Where a scan can start, from a on and below b: the ones before have fewer than `wanted` zeros before them. It calls itself on the part that can hold the
+// first that has not fewer: from the number compared on if that one has fewer, else up to it. 64 or fewer are left to the scan.
+//
+// The part is chosen without a branch, which would be guessed wrong half the time. What it is handed are single words, references to the slices
+// among them: so the compiler makes a loop of it.
 fn halve_high(
     high: &&[u64],
     len: usize,
@@ -61,7 +59,8 @@ fn halve_high(
     halve_high(high, len, index, positions, wanted, from, to, table)
 }
 
-// Where a scan for the first val from a on and below b can start: the values before are below val. It calls itself as `halve_high` does, by whole values.
+// Where a scan for val can start, from a on and below b: the values before are below val. It calls itself on the part that can hold the first val: from the
+// number compared on if that value is below val, else up to it.
 fn halve_range(image: &[u64], p: Parts, a: usize, b: usize, val: u64, table: &[u8; 2048]) -> usize
     requires { ⌜ (Open (now image) p (now table) × Range p a b) ⌝ }
     ensures { λ r. ⌜ ScanStart (times (now (image .entry))) a b val r ⌝ }
@@ -77,7 +76,7 @@ fn halve_range(image: &[u64], p: Parts, a: usize, b: usize, val: u64, table: &[u
     halve_range(image, p, a, k + 1, val, table)
 }
 
-// The same by the high bits of val alone.
+// The same by the high bits of val alone, which are the zeros before its one.
 fn high_start(image: &[u64], p: Parts, a: usize, b: usize, val: u64, table: &[u8; 2048]) -> usize
     requires { ⌜ (Open (now image) p (now table) × Range p a b) ⌝ }
     ensures { λ r. ⌜ ScanStart (times (now (image .entry))) a b val r ⌝ }
@@ -88,11 +87,20 @@ fn high_start(image: &[u64], p: Parts, a: usize, b: usize, val: u64, table: &[u8
     let high = &image[6..low_at];
     let index = &image[ones_at..zeros_at];
     let wanted = (val >> p.low_len) as usize;
-    halve_high(&high, p.high_len, &index, p.num_pushed as usize, wanted, a, b, table)
+    halve_high(
+        &high,
+        p.high_len,
+        &index,
+        p.num_pushed as usize,
+        wanted,
+        a,
+        b,
+        table,
+    )
 }
 
-// The same. High bits come first, so that no low word is read in a run of equal values. They do not tell where many values with the high bits of val are
-// below it: then the rest is halved by whole values.
+// The same: by high bits first, so that no low word is read in a run of equal values. Where many values with the high bits of val are below it, these do
+// not tell, and the rest is halved by whole values.
 fn scan_start(image: &[u64], p: Parts, a: usize, b: usize, val: u64, table: &[u8; 2048]) -> usize
     requires { ⌜ (Open (now image) p (now table) × Range p a b) ⌝ }
     ensures { λ r. ⌜ ScanStart (times (now (image .entry))) a b val r ⌝ }
@@ -101,14 +109,14 @@ fn scan_start(image: &[u64], p: Parts, a: usize, b: usize, val: u64, table: &[u8
     if b - from <= SUBBLOCK_LEN {
         return from;
     }
-    let k = from + SUBBLOCK_LEN;
-    if value_of(image, p, k, table) < val {
-        return halve_range(image, p, k, b, val, table);
+    let next = from + SUBBLOCK_LEN;
+    if value_of(image, p, next, table) < val {
+        return halve_range(image, p, next, b, val, table);
     }
     from
 }
 
-// The number of the first value from a on and below b that is val, or NOWHERE. The values do not fall, so it ends at the first that is not below val.
+// The number of the first value from a on and below b that is val. The values do not fall, so it ends at the first that is not below val.
 fn scan_range(
     image: &[u64],
     p: Parts,
@@ -117,9 +125,9 @@ fn scan_range(
     val: u64,
     table: &[u8; 2048],
     places: &[u8; 64],
-) -> usize
+) -> Number
     requires { ⌜ (Searchable (now image) p (now table) (now places) × Range p a b) ⌝ }
-    ensures { λ r. ⌜ ofSpot r ≡ firstIndex val a (takeList (b - a) (drop a (times (now (image .entry))))) ⌝ }
+    ensures { λ r. ⌜ ofNumber r ≡ firstIndex val a (takeList (b - a) (drop a (times (now (image .entry))))) ⌝ }
 {
     let mut w = begin(image, p, a, table);
     let mut i = a;
@@ -127,16 +135,16 @@ fn scan_range(
         let t = take(image, p, w, places);
         let x = t.value;
         if x == val {
-            return i;
+            return Number::Is(i);
         }
         if val < x {
-            return NOWHERE;
+            return Number::Nothing;
         }
         let rest = t.walk;
         w = rest;
         i += 1;
     }
-    NOWHERE
+    Number::Nothing
 }
 
 // The number of the first value that is val, from a on and below b, of an opened image.
@@ -159,11 +167,7 @@ pub fn binsearch_range_opened(
         return Number::Refused(Refusal::RangeOutOfBounds);
     }
     let from = scan_start(image, p, a, b, val, table);
-    let found = scan_range(image, p, from, b, val, table, places);
-    if found == NOWHERE {
-        return Number::Nothing;
-    }
-    Number::Is(found)
+    scan_range(image, p, from, b, val, table, places)
 }
 
 // The number of the first value that is val, of an opened image.

@@ -1,7 +1,6 @@
 -- `elias_fano_walk::search::binsearch_range_opened` meets its contract.
 -- Assumes nothing.
 use borrow.Author.Needs.{needs}
-use mathlib.Core.Path.{sym, _∙_}
 use Rattle.elias_fano_walk.proofs.Searched as searched
 use Rattle.elias_fano_walk.proofs.search.binsearch_range_opened.Statement.{statement}
 use Rattle.elias_fano_walk.proofs.search.binsearch_range_opened.Tie as tie
@@ -20,13 +19,8 @@ scan-range-requires c κs = search needs
 
 returns-3 : tie.Need-returns-3
 returns-3 c =
-    let s = c .before .before .before .before .before .before in
-    searched.search-found (s .args .image .now) (s .pre .opened .ok) (s .args .p) (s .pre .opened .parts) (s .args .val) (s .args .a) (s .args .b) (record { some = c .before .before .before .before .if1 .left; upto = c .before .before .before .if2 .left }) _ (c .before .before .scan-start .ensures) _ (sym (searched.spot-none _ (c .if3 .taken)) ∙ c .before .scan-range .ensures)
-
-returns-4 : tie.Need-returns-4
-returns-4 c =
-    let s = c .before .before .before .before .before .before in
-    searched.search-found (s .args .image .now) (s .pre .opened .ok) (s .args .p) (s .pre .opened .parts) (s .args .val) (s .args .a) (s .args .b) (record { some = c .before .before .before .before .if1 .left; upto = c .before .before .before .if2 .left }) _ (c .before .before .scan-start .ensures) _ (sym (searched.spot-some _ (c .if3 .left)) ∙ c .before .scan-range .ensures)
+    let s = c .before .before .before .before .before in
+    searched.search-found (s .args .image .now) (s .pre .opened .ok) (s .args .p) (s .pre .opened .parts) (s .args .val) (s .args .a) (s .args .b) (record { some = c .before .before .before .if1 .left; upto = c .before .before .if2 .left }) _ (c .before .scan-start .ensures) _ (c .scan-range .ensures)
 
 pub binsearch-range-opened-spec : {M : Type 1} → statement M
-binsearch-range-opened-spec = tie.close (tie.spec returns returns-2 scan-start-requires scan-range-requires returns-3 returns-4)
+binsearch-range-opened-spec = tie.close (tie.spec returns returns-2 scan-start-requires scan-range-requires returns-3)

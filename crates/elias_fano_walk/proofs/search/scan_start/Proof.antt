@@ -17,8 +17,8 @@ sub-if1 c = search needs
 returns : tie.Need-returns
 returns c = search needs
 
-add-k : tie.Need-add-k
-add-k c = search needs
+add-next : tie.Need-add-next
+add-next c = search needs
 
 value-of-requires : tie.Need-value-of-requires
 value-of-requires c κs = search needs
@@ -43,7 +43,7 @@ scan-start-spec =
     high-start-requires
     sub-if1
     returns
-    add-k
+    add-next
     value-of-requires
     halve-range-requires
     returns-2
