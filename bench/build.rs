@@ -1,4 +1,5 @@
-//! Links the port's static libraries, which `rt staticlib bench_exports` and `rt staticlib ffi` write, and the second peer where bench/run built it.
+//! Links the port's static libraries, which `rt staticlib bench_exports` and `rt staticlib ffi` write, and the second peer and the port of an earlier commit where
+//! bench/run built them.
 
 fn main() {
     let here = std::env::var("CARGO_MANIFEST_DIR").expect("cargo sets it");
@@ -7,6 +8,11 @@ fn main() {
     for library in ["bench_exports", "ffi"] {
         println!("cargo:rerun-if-changed={libraries}/lib{library}.a");
         println!("cargo:rustc-link-lib=static={library}");
+    }
+    if std::env::var("CARGO_FEATURE_BEFORE").is_ok() {
+        println!("cargo:rerun-if-changed={here}/target/before/libbefore.a");
+        println!("cargo:rustc-link-search=native={here}/target/before");
+        println!("cargo:rustc-link-lib=static=before");
     }
     if std::env::var("CARGO_FEATURE_SDSL").is_ok() {
         println!("cargo:rerun-if-changed={here}/target/sdsl/libsdsl_side.a");

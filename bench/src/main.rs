@@ -1,5 +1,7 @@
 //! Times the port beside the crate sucds on the same words, compares what they answer, and prints a table.
 
+#[cfg(feature = "before")]
+mod before;
 mod bulk;
 mod port;
 mod questions;
@@ -236,6 +238,7 @@ fn main() {
     }
     table.print();
     second_peer(random);
+    earlier_port(random);
 }
 
 #[cfg(feature = "sdsl")]
@@ -254,3 +257,17 @@ fn second_peer(random: &mut Random) {
 
 #[cfg(not(feature = "sdsl"))]
 fn second_peer(_: &mut Random) {}
+
+#[cfg(feature = "before")]
+fn earlier_port(random: &mut Random) {
+    let mut table = Table::new("before");
+    let lists = before::lists(random);
+    for _ in 0..ROUNDS {
+        lists.iter().for_each(|l| l.rows(&mut table));
+    }
+    println!();
+    table.print();
+}
+
+#[cfg(not(feature = "before"))]
+fn earlier_port(_: &mut Random) {}

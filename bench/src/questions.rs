@@ -52,7 +52,8 @@ impl Questions {
         }
     }
 
-    pub fn rows(&self, table: &mut Table, n: usize, ef: &EliasFano, image: &[u64]) {
+    pub fn rows(&self, table: &mut Table, times: &[u64], ef: &EliasFano, image: &[u64]) {
+        let n = times.len();
         let row = |row, target: Option<f64>| Row {
             what: name(row, n),
             target: target.and_then(|target| at_a_million(n, target)),
@@ -68,8 +69,8 @@ impl Questions {
         let after = |v| ef.successor(v);
         row(successor, Some(0.6)).asked(table, &self.values, port::SUCCESSORS, after);
         let search = |v| number(ef.binsearch(v));
-        row(hit, Some(0.9)).asked(table, &self.hits, port::BINSEARCHES, search);
-        row(miss, Some(0.9)).asked(table, &self.misses, port::BINSEARCHES, search);
+        row(hit, Some(0.9)).searched(table, times, &self.hits, search);
+        row(miss, Some(0.9)).searched(table, times, &self.misses, search);
         row(walk, Some(1.0)).walked(table, n, ef);
         row(read, None).read(table, n, ef);
     }
@@ -84,10 +85,22 @@ struct Row<'a> {
 impl Row<'_> {
     /// Each side writes its answers to words that it is lent; the port opens the image first, which is taken off.
     fn asked(&self, table: &mut Table, args: &[u64], many: Many, one: impl Fn(u64) -> Option<u64>) {
-        self.asked_as(table, args.len().into(), args, many, one);
+        self.asked_as(table, args.len().into(), args, many, one, |value| value);
     }
 
-    /// The Rust is asked only the first questions where it takes too long.
+    /// Among equal times the Rust may find another than the first: the time at the index is compared.
+    fn searched(
+        &self,
+        table: &mut Table,
+        times: &[u64],
+        args: &[u64],
+        one: impl Fn(u64) -> Option<u64>,
+    ) {
+        let time = |k| times[k as usize];
+        self.asked_as(table, args.len().into(), args, port::BINSEARCHES, one, time);
+    }
+
+    /// The Rust is asked only the first questions where it takes too long. `seen` is what of an answer is compared.
     fn asked_as(
         &self,
         table: &mut Table,
@@ -95,6 +108,7 @@ impl Row<'_> {
         args: &[u64],
         many: Many,
         one: impl Fn(u64) -> Option<u64>,
+        seen: impl Fn(u64) -> u64,
     ) {
         if !is_asked(&self.what) {
             return;
@@ -104,8 +118,8 @@ impl Row<'_> {
         let mut ours = vec![Answer::default(); args.len()];
         rust::record_ask(&one, few, &mut theirs);
         port::record_ask(many, self.image, args, &mut ours);
-        let same = ours.iter().zip(&theirs).all(|(a, b)| a.get() == *b);
-        assert!(same, "{}", self.what);
+        let same = |(a, b): (&Answer, &Option<u64>)| a.get().map(&seen) == b.map(&seen);
+        assert!(ours.iter().zip(&theirs).all(same), "{}", self.what);
         table.row_after(
             &self.what,
             items,
@@ -174,6 +188,7 @@ impl Equal {
             port: 100_000,
         };
         let rank = |v| self.ef.rank(v).map(|k| k as u64);
-        row.asked_as(table, items, &vec![500_000_000; 100_000], port::RANKS, rank);
+        let args = vec![500_000_000; 100_000];
+        row.asked_as(table, items, &args, port::RANKS, rank, |k| k);
     }
 }

@@ -9,7 +9,7 @@ use crate::table::{is_asked, Table};
 use crate::{port, rust, Random};
 
 /// The longest time between two readings, in seconds.
-const LONGEST: usize = 1800;
+pub const LONGEST: usize = 1800;
 
 const ROWS: [&str; 4] = ["push", "build", "build with rank", "open with rank"];
 
@@ -26,7 +26,7 @@ pub struct Record {
 }
 
 /// Times in order, with gaps of a burner.
-fn burner(n: usize, random: &mut Random) -> Vec<u64> {
+pub fn burner(n: usize, random: &mut Random) -> Vec<u64> {
     let gap = |last: &mut u64, _| {
         *last += random.below(LONGEST + 1) as u64;
         Some(*last)
@@ -139,6 +139,6 @@ impl Record {
             rust_build(true),
             (|| (), |()| port::record_open(black_box(&self.image))),
         );
-        self.questions.rows(table, n, &self.record, &self.image);
+        self.questions.rows(table, &self.times, &self.record, &self.image);
     }
 }

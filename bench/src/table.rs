@@ -16,9 +16,27 @@ struct Row {
     what: String,
     items: Items,
     target: Option<f64>,
-    peer: f64,
-    port: f64,
-    port_before: f64,
+    /// What each takes, and what it takes for what it does before.
+    peer: Side,
+    port: Side,
+}
+
+/// The nanoseconds of a side at best, and of what it does before, which is taken off.
+#[derive(Clone, Copy)]
+struct Side {
+    all: f64,
+    before: f64,
+}
+
+impl Side {
+    fn keep(&mut self, other: Side) {
+        self.all = self.all.min(other.all);
+        self.before = self.before.min(other.before);
+    }
+
+    fn each(self, items: usize) -> f64 {
+        (self.all - self.before) / items as f64
+    }
 }
 
 /// How many items a call of the peer handles, and how many one of the port: the same but where one side is too slow for it.
@@ -82,25 +100,27 @@ impl Table {
         Self { peer, rows: vec![] }
     }
 
-    /// Keeps the best of the peer, of the port, and of what the port does before, which is taken off its time.
-    fn keep(&mut self, what: &str, items: Items, target: Option<f64>, mut sides: [Timed; 3]) {
+    /// Keeps the best of the peer and of the port, and of what each does before.
+    fn keep(&mut self, what: &str, items: Items, target: Option<f64>, mut sides: [Timed; 4]) {
         if !is_asked(what) {
             return;
         }
         let mut best = sides.each_mut().map(|side| side(1));
-        let calls = (AT_LEAST / best[0].max(best[1])).ceil();
+        let calls = (AT_LEAST / best[0].max(best[2])).ceil();
         let repeats = (AT_MOST / (calls * best.iter().sum::<f64>())) as usize;
         for _ in 0..repeats.min(REPEATS) {
             for (best, side) in best.iter_mut().zip(&mut sides) {
                 *best = best.min(side(calls as usize));
             }
         }
-        let [peer, port, port_before] = best;
+        let [peer, port] = [0, 2].map(|i| Side {
+            all: best[i],
+            before: best[i + 1],
+        });
         match self.rows.iter_mut().find(|row| row.what == what) {
             Some(row) => {
-                row.peer = row.peer.min(peer);
-                row.port = row.port.min(port);
-                row.port_before = row.port_before.min(port_before);
+                row.peer.keep(peer);
+                row.port.keep(port);
             }
             None => self.rows.push(Row {
                 what: what.to_string(),
@@ -108,7 +128,6 @@ impl Table {
                 target,
                 peer,
                 port,
-                port_before,
             }),
         }
     }
@@ -126,7 +145,12 @@ impl Table {
             what,
             items.into(),
             target,
-            [&mut timed(peer), &mut timed(port), &mut |_| 0.0],
+            [
+                &mut timed(peer),
+                &mut |_| 0.0,
+                &mut timed(port),
+                &mut |_| 0.0,
+            ],
         );
     }
 
@@ -145,6 +169,7 @@ impl Table {
             target,
             [
                 &mut timed_with(peer.0, peer.1),
+                &mut |_| 0.0,
                 &mut timed_with(port.0, port.1),
                 &mut |_| 0.0,
             ],
@@ -178,7 +203,35 @@ impl Table {
             what,
             items.into(),
             target,
-            [&mut timed(peer), &mut timed(port), &mut timed(port_before)],
+            [
+                &mut timed(peer),
+                &mut |_| 0.0,
+                &mut timed(port),
+                &mut timed(port_before),
+            ],
+        );
+    }
+
+    /// The same where the peer does something else first too: each side as all of it, and what comes before.
+    #[cfg(feature = "before")]
+    pub fn row_after_both<T, U>(
+        &mut self,
+        what: &str,
+        items: usize,
+        target: Option<f64>,
+        peer: (impl FnMut() -> T, impl FnMut() -> T),
+        port: (impl FnMut() -> U, impl FnMut() -> U),
+    ) {
+        self.keep(
+            what,
+            items.into(),
+            target,
+            [
+                &mut timed(peer.0),
+                &mut timed(peer.1),
+                &mut timed(port.0),
+                &mut timed(port.1),
+            ],
         );
     }
 
@@ -187,8 +240,8 @@ impl Table {
         println!("| what | {peer}, ns | port, ns | port / {peer} | target | |");
         println!("|---|---:|---:|---:|---:|---|");
         for row in &self.rows {
-            let peer = row.peer / row.items.peer as f64;
-            let port = (row.port - row.port_before) / row.items.port as f64;
+            let peer = row.peer.each(row.items.peer);
+            let port = row.port.each(row.items.port);
             let ratio = port / peer;
             let digits = if ratio < 0.01 { 5 } else { 2 };
             let (target, verdict) = match row.target {
