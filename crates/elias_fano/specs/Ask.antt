@@ -1,5 +1,5 @@
 -- What a record answers to each question: over its settings and its list of times, and nothing of bits is in it. u is the universe, n the
--- declared count, c the rank choice, T the list of times. Document 01, "src/mii_sequences/elias_fano.rs" and "elias_fano/iter.rs". Assumes nothing.
+-- declared count, c the rank choice, T the list of times. Document 01, "src/mii_sequences/elias_fano.rs" and "elias_fano/iter.rs"; the search is document 02 (i). Assumes nothing.
 use mathlib.Core.List.{List, [], _∷_, _++_}
 use mathlib.Core.Bool.{Bool, not, _&&_, cond}
 use Prim.Native.Nat.{ℕ, suc, _+_, _-_}

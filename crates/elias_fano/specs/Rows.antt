@@ -1,4 +1,4 @@
--- Document 01's examples of the calls as rows of one table, and the theorem that covers the table. Assumes nothing.
+-- Document 01's examples of the calls as rows of one table, those of the search as document 02 (i) has them, and the theorem that covers the table. Assumes nothing.
 use mathlib.Core.Path.{_≡_, ap}
 use mathlib.Core.List.{List, [], _∷_, _++_, map}
 use mathlib.Core.Bool.{Bool, true, false}

@@ -28,18 +28,16 @@ use Rattle.elias_fano_walk.specs.Searching.{Range, HighStart, ScanStart}
 
 -- ---- a choice between two numbers
 
-pub chose-first : (t : Bool) (x y r : ℕ) → t ≡ true → r ≡ x → r ≡ cond t x y
-chose-first t x y r e h = h ∙ sym (ap (λ (b : Bool). cond b x y) e)
-
-pub chose-second : (t : Bool) (x y r : ℕ) → t ≡ false → r ≡ y → r ≡ cond t x y
-chose-second t x y r e h = h ∙ sym (ap (λ (b : Bool). cond b x y) e)
+-- by what is known of the test
+pub chosen : (t s : Bool) (x y r : ℕ) → t ≡ s → r ≡ cond s x y → r ≡ cond t x y
+chosen t s x y r e h = h ∙ sym (ap (λ (b : Bool). cond b x y) e)
 
 -- ---- by the high bits
 
-module _ (f : ℕ → ℕ) (flat : (i : ℕ) → f i ≤ 1) (len : ℕ) where
+module _ (f : ℕ → ℕ) (bits : (i : ℕ) → f i ≤ 1) (len : ℕ) where
   -- a one stands at its number or later
   pub past-number : (k x : ℕ) → select f len k ≡ At x → k ≤ x
-  past-number k x e = subst (λ (n : ℕ). n ≤ x) (selected f len k x e .before) (count-le f x flat)
+  past-number k x e = subst (λ (n : ℕ). n ≤ x) (selected f len k x e .before) (count-le f x bits)
 
   -- the zeros before a one do not get fewer
   apart : (j k x y : ℕ) → j ≤ k → select f len j ≡ At x → select f len k ≡ At y → x + k ≤ y + j
@@ -55,7 +53,7 @@ module _ (f : ℕ → ℕ) (flat : (i : ℕ) → f i ≤ 1) (len : ℕ) where
       go (yes l) =
           let s : x + (y - x) ≡ y = omega arith in
           let a : count f y ≡ count f x + count (λ i. f (x + i)) (y - x) = ap (count f) (sym s) ∙ count-add f x (y - x) in
-          omega (arith, cx, cy, a, count-le (λ i. f (x + i)) (y - x) (λ i. flat (x + i)))
+          omega (arith, cx, cy, a, count-le (λ i. f (x + i)) (y - x) (λ i. bits (x + i)))
       go (no n) =
           let m : count f (suc y) ≤ count f x = count-mono f (suc y) x (omega (arith, lt-of-not-le n)) in
           omega (arith, cx, cy, count-suc f y, selected f len k y g .one)

@@ -1,4 +1,4 @@
--- Search: the walk from the low end, the halving, and the answers. T is the list of times, and they do not fall. Assumes nothing.
+-- Search: the scan from the low end, and the answers. T is the list of times. Assumes nothing.
 use mathlib.Core.Path.{_≡_, refl, sym, ap, ap₂, _∙_, subst}
 use mathlib.Core.List.{List, _∷_}
 use mathlib.Core.Bool.{true}
@@ -29,49 +29,47 @@ use Rattle.elias_fano_walk.proofs.Halved.{in-list}
 abbrev firstFrom : ℕ → List ℕ → ℕ → ℕ → Answer
 firstFrom v T b j = firstIndex v j (take (b - j) (drop j T))
 
-module _ (v : ℕ) (T : List ℕ) where
-  module _ (b : ℕ) (up : b ≤ length T) where
-    opens : (j : ℕ) → j < b → take (b - j) (drop j T) ≡ getD T j 0 ∷ take (b - suc j) (drop (suc j) T)
-    opens j h = ap₂ (λ (n : ℕ) (l : List ℕ). take n l) (let e : b - j ≡ suc (b - suc j) = omega arith in e) (drop-cons T j 0 (omega arith))
+module _ (v : ℕ) (T : List ℕ) (b : ℕ) (up : b ≤ length T) where
+  opens : (j : ℕ) → j < b → take (b - j) (drop j T) ≡ getD T j 0 ∷ take (b - suc j) (drop (suc j) T)
+  opens j h = ap₂ (λ (n : ℕ) (l : List ℕ). take n l) (let e : b - j ≡ suc (b - suc j) = omega arith in e) (drop-cons T j 0 (omega arith))
 
-    first-here : (j : ℕ) → j < b → getD T j 0 ≡ v → firstFrom v T b j ≡ value j
-    unfolding firstIndex
-    first-here j h e = ap (firstIndex v j) (opens j h) ∙ simp (eq-eqb (getD T j 0) v e)
+  first-here : (j : ℕ) → j < b → getD T j 0 ≡ v → firstFrom v T b j ≡ value j
+  unfolding firstIndex
+  first-here j h e = ap (firstIndex v j) (opens j h) ∙ simp (eq-eqb (getD T j 0) v e)
 
-    first-on : (j : ℕ) → j < b → (getD T j 0 ≡ v → ⊥) → firstFrom v T b j ≡ firstFrom v T b (j + 1)
-    unfolding firstIndex
-    first-on j h n = ap (firstIndex v j) (opens j h) ∙ simp (ne-eqb (getD T j 0) v n, add-one j)
+  first-on : (j : ℕ) → j < b → (getD T j 0 ≡ v → ⊥) → firstFrom v T b j ≡ firstFrom v T b (j + 1)
+  unfolding firstIndex
+  first-on j h n = ap (firstIndex v j) (opens j h) ∙ simp (ne-eqb (getD T j 0) v n, add-one j)
 
-    first-end : (j : ℕ) → b ≤ j → firstFrom v T b j ≡ none
-    unfolding firstIndex
-    first-end j h = ap (λ (n : ℕ). firstIndex v j (take n (drop j T))) (let e : b - j ≡ 0 = omega arith in e)
+  first-end : (j : ℕ) → b ≤ j → firstFrom v T b j ≡ none
+  unfolding firstIndex
+  first-end j h = ap (λ (n : ℕ). firstIndex v j (take n (drop j T))) (let e : b - j ≡ 0 = omega arith in e)
 
-    -- none before the number r is v, if all there are below v
-    first-skip : (a r : ℕ) → a ≤ r → r ≤ b → ((j : ℕ) → j < r → a ≤ j → getD T j 0 < v) → firstFrom v T b a ≡ firstFrom v T b r
-    first-skip a r h k g = go (r - a) a (let e : a + (r - a) ≡ r = omega arith in e) (λ j l m. g j l m)
-      where
-        go : (d j : ℕ) → j + d ≡ r → ((i : ℕ) → i < r → j ≤ i → getD T i 0 < v) → firstFrom v T b j ≡ firstFrom v T b r
-        go zero j e f = ap (firstFrom v T b) (let q : j ≡ r = omega arith in q)
-        go (suc d) j e f = first-on j (omega arith) (λ q. omega (arith, f j (omega arith) (le-refl j))) ∙ go d (j + 1) (omega arith) (λ i l m. f i l (omega arith))
+  -- none before the number r is v, if all there are below v
+  first-skip : (a r : ℕ) → a ≤ r → r ≤ b → ((j : ℕ) → j < r → a ≤ j → getD T j 0 < v) → firstFrom v T b a ≡ firstFrom v T b r
+  first-skip a r h k g = go (r - a) a (let e : a + (r - a) ≡ r = omega arith in e) (λ j l m. g j l m)
+    where
+      go : (d j : ℕ) → j + d ≡ r → ((i : ℕ) → i < r → j ≤ i → getD T i 0 < v) → firstFrom v T b j ≡ firstFrom v T b r
+      go zero j e f = ap (firstFrom v T b) (let q : j ≡ r = omega arith in q)
+      go (suc d) j e f = first-on j (omega arith) (λ q. omega (arith, f j (omega arith) (le-refl j))) ∙ go d (j + 1) (omega arith) (λ i l m. f i l (omega arith))
 
+  -- times that do not fall: past one above v none is v
   module _ (u : ℕ) (r : rising u 0 T ≡ true) where
-    -- past one above v none is v
-    module _ (b : ℕ) (up : b ≤ length T) where
-      abbrev Past : ℕ → ℕ → Type 0
-      Past d j = b - j ≤ d → (j < b → v < getD T j 0) → firstFrom v T b j ≡ none
+    abbrev Past : ℕ → ℕ → Type 0
+    Past d j = b - j ≤ d → (j < b → v < getD T j 0) → firstFrom v T b j ≡ none
 
-      past : (d j : ℕ) → Past d j
-      past zero j h g = first-end b up j (omega arith)
-      past (suc d) j h g = go (past d (j + 1)) (decLt j b)
-        where
-          go : Past d (j + 1) → Dec (j < b) → firstFrom v T b j ≡ none
-          go ih (yes l) =
-              first-on b up j l (λ e. omega (arith, g l))
-              ∙ ih (omega arith) (λ m. omega (arith, g l, rising-le u T j r (omega arith)))
-          go ih (no n) = first-end b up j (omega (arith, lt-of-not-le n))
+    past : (d j : ℕ) → Past d j
+    past zero j h g = first-end j (omega arith)
+    past (suc d) j h g = go (past d (j + 1)) (decLt j b)
+      where
+        go : Past d (j + 1) → Dec (j < b) → firstFrom v T b j ≡ none
+        go ih (yes l) =
+            first-on j l (λ e. omega (arith, g l))
+            ∙ ih (omega arith) (λ m. omega (arith, g l, rising-le u T j r (omega arith)))
+        go ih (no n) = first-end j (omega (arith, lt-of-not-le n))
 
-      first-past : (j : ℕ) → v < getD T j 0 → firstFrom v T b j ≡ none
-      first-past j g = past (b - j) j (le-refl (b - j)) (λ _. g)
+    first-past : (j : ℕ) → v < getD T j 0 → firstFrom v T b j ≡ none
+    first-past j g = past (b - j) j (le-refl (b - j)) (λ _. g)
 
 -- ---- the loop
 
@@ -101,7 +99,7 @@ module _ (i : List ℕ) (ok : accepted i ≡ true) (p : Parts) (ep : p ≡ parts
       scan-finds h = sym (s .same ∙ first-here v (times i) b up j l (sym at ∙ h))
 
       pub scan-stops : v < x → none ≡ firstFrom v (times i) b a
-      scan-stops h = sym (s .same ∙ first-past v (times i) _ (images.is-fit i ok .rises) b up j (subst (λ (y : ℕ). v < y) at h))
+      scan-stops h = sym (s .same ∙ first-past v (times i) b up _ (images.is-fit i ok .rises) j (subst (λ (y : ℕ). v < y) at h))
 
       pub scan-goes-on : (x ≡ v → ⊥) → (w′ : Walk) → WalkOver i p w′ → w′ .number ≡ suc (w .number) → Scanning i p v a b w′ (j + 1)
       scan-goes-on n w′ h k = record {

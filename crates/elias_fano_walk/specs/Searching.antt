@@ -1,4 +1,4 @@
--- What the search in an opened image demands. i is an image. Assumes nothing.
+-- What the search in an opened image demands, and what its halving finds. i is an image. Assumes nothing.
 use mathlib.Core.Path.{_≡_}
 use mathlib.Core.List.{List}
 use Prim.Native.Nat.{ℕ, _+_, _≤_, _<_}

@@ -1,7 +1,7 @@
 -- The proof of the cycle of calls {halve_high}. The measure is what is left of the range. Assumes nothing.
 use borrow.Author.Needs.{needs}
 use mathlib.Core.Path.{refl}
-use mathlib.Core.Bool.{true}
+use mathlib.Core.Bool.{true, false}
 use mathlib.Core.Logic.{⊎-elim}
 use native.Mathlib.Omega.{arith}
 use Prim.Native.Nat.{ℕ, _+_, _-_, _*_, _/_, _<_}
@@ -93,7 +93,7 @@ halve-high-halve-high-requires t c κs =
     let s = c .before .before .before .before .before .before in
     let h : 64 < s .args .b - s .args .a = c .before .before .before .before .before .if1 .left in
     let below = ltb (c .before .before .select-within .result - ((s .args .a + s .args .b) / 2 / 32 * 32)) (s .args .wanted) in
-    let part = halved.high-part (bitOver true (s .args .high .now .now)) (bitOver-le true (s .args .high .now .now)) (s .args .len) (s .args .wanted) (s .args .a) (s .args .b) (s .pre .1 .1) ((s .args .a + s .args .b) / 2 / 32 * 32) (omega arith) (omega arith) below (c .before .if2 .from) (c .if3 .to) (⊎-elim (λ w. halved.chose-first _ _ _ _ (w .0 .taken) (w .1)) (λ w. halved.chose-second _ _ _ _ (w .0 .left) (w .1)) (c .before .if2 .came)) (⊎-elim (λ w. halved.chose-first _ _ _ _ (w .0 .taken) (w .1)) (λ w. halved.chose-second _ _ _ _ (w .0 .left) (w .1)) (c .if3 .came)) in
+    let part = halved.high-part (bitOver true (s .args .high .now .now)) (bitOver-le true (s .args .high .now .now)) (s .args .len) (s .args .wanted) (s .args .a) (s .args .b) (s .pre .1 .1) ((s .args .a + s .args .b) / 2 / 32 * 32) (omega arith) (omega arith) below (c .before .if2 .from) (c .if3 .to) (⊎-elim (λ w. halved.chosen _ true _ _ _ (w .0 .taken) (w .1)) (λ w. halved.chosen _ false _ _ _ (w .0 .left) (w .1)) (c .before .if2 .came)) (⊎-elim (λ w. halved.chosen _ true _ _ _ (w .0 .taken) (w .1)) (λ w. halved.chosen _ false _ _ _ (w .0 .left) (w .1)) (c .if3 .came)) in
     (omega (arith, s .pre .0, part .2), (s .pre .1 .0, part .0, omega (arith, part .1, s .pre .1 .2), omega (arith, part .1, s .pre .1 .3)))
 
 halve-high-returns-2 : (t : ℕ) → halve-high-lts.Need-returns-2 (
@@ -107,7 +107,7 @@ halve-high-returns-2 t c =
     let h : 64 < s .args .b - s .args .a = c .before .before .before .before .before .before .if1 .left in
     let place = c .before .before .before .select-within in
     let below = ltb (place .result - ((s .args .a + s .args .b) / 2 / 32 * 32)) (s .args .wanted) in
-    halved.high-holds (bitOver true (s .args .high .now .now)) (bitOver-le true (s .args .high .now .now)) (s .args .len) (s .args .wanted) (s .args .a) (s .args .b) (s .pre .1 .1) ((s .args .a + s .args .b) / 2 / 32 * 32) (omega arith) (omega arith) below (c .before .before .if2 .from) (c .before .if3 .to) (⊎-elim (λ w. halved.chose-first _ _ _ _ (w .0 .taken) (w .1)) (λ w. halved.chose-second _ _ _ _ (w .0 .left) (w .1)) (c .before .before .if2 .came)) (⊎-elim (λ w. halved.chose-first _ _ _ _ (w .0 .taken) (w .1)) (λ w. halved.chose-second _ _ _ _ (w .0 .left) (w .1)) (c .before .if3 .came)) _ (place .ensures) refl _ (c .halve-high .ensures)
+    halved.high-holds (bitOver true (s .args .high .now .now)) (bitOver-le true (s .args .high .now .now)) (s .args .len) (s .args .wanted) (s .args .a) (s .args .b) (s .pre .1 .1) ((s .args .a + s .args .b) / 2 / 32 * 32) (omega arith) (omega arith) below (c .before .before .if2 .from) (c .before .if3 .to) (⊎-elim (λ w. halved.chosen _ true _ _ _ (w .0 .taken) (w .1)) (λ w. halved.chosen _ false _ _ _ (w .0 .left) (w .1)) (c .before .before .if2 .came)) (⊎-elim (λ w. halved.chosen _ true _ _ _ (w .0 .taken) (w .1)) (λ w. halved.chosen _ false _ _ _ (w .0 .left) (w .1)) (c .before .if3 .came)) _ (place .ensures) refl _ (c .halve-high .ensures)
 
 pub +halve-high-spec : {M : Type 1} → statement M
 +halve-high-spec = close μ-halve-high λ t. halve-high-lts.spec (
