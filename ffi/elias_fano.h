@@ -118,8 +118,7 @@ EfAnswer ef_predecessor(const uint64_t *image, size_t len, uint64_t value);
 /* The smallest value at or above `value`; EF_NONE if there is none, and from the universe on. Needs the rank index. */
 EfAnswer ef_successor(const uint64_t *image, size_t len, uint64_t value);
 
-/* The number of a value that is `value`; EF_NONE if there is none. Of equal values it is the one that halving meets; once 64 or fewer remain,
- * the first of these. Needs no rank index. */
+/* The number of the first value that is `value`; EF_NONE if there is none. Needs no rank index. */
 EfAnswer ef_binsearch(const uint64_t *image, size_t len, uint64_t value);
 
 /* The same among the values with the numbers from a on and below b; EF_NONE if a is not below b, else refused with 9 if b is over the number

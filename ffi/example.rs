@@ -175,6 +175,11 @@ fn below(times: &[u64], value: u64) -> u64 {
     times.partition_point(|&t| t < value) as u64
 }
 
+fn first_of(times: &[u64], value: u64) -> Option<u64> {
+    let k = below(times, value);
+    (times.get(k as usize) == Some(&value)).then_some(k)
+}
+
 fn at_most(times: &[u64], value: u64) -> Option<u64> {
     times[..times.partition_point(|&t| t <= value)].last().copied()
 }
@@ -204,10 +209,7 @@ fn questions(image: &[u64], times: &[u64], universe: u64) {
     check("predecessor", ef_predecessors, ef_predecessor, &|v| inside(v, at_most(times, v)));
     check("successor", ef_successors, ef_successor, &|v| inside(v, at_least(times, v)));
 
-    // of equal values any is found
-    for (v, found) in values.iter().zip(many(ef_binsearches, image, &values).unwrap()) {
-        assert_eq!(found.unwrap().map(|k| times[k as usize]), times.binary_search(v).ok().map(|_| *v));
-    }
+    check("binsearch", ef_binsearches, ef_binsearch, &|v| first_of(times, v));
     assert_eq!(many(ef_ranks, &image[1..], &values), Err(Refusal::Invalid));
 }
 
@@ -219,8 +221,6 @@ fn other_questions(image: &[u64], times: &[u64], universe: u64) {
     assert_eq!(plain(ef_universe, image), Ok(Some(universe)));
     assert_eq!(plain(ef_has_rank, image), Ok(Some(1)));
     assert_eq!(by_number(ef_delta, image, n - 1), Ok(gap(times, n - 1)));
-    let found = one(ef_binsearch, image, times[1_000]).unwrap().unwrap() as usize;
-    assert_eq!(times[found], times[1_000]);
     let last = times[n - 1];
     assert_eq!(binsearch_range(image, n - 1, n, last), Ok(Some(n as u64 - 1)));
     assert_eq!(binsearch_range(image, 0, n, last + 1), Ok(None));
@@ -305,13 +305,13 @@ fn start_words(u: u64, n: u64) -> usize {
 }
 
 fn main() {
-    // a few thousand starts with gaps of up to half an hour, from a fixed seed
+    // a few thousand starts with gaps of up to half an hour, from a fixed seed; 300 of them in one second
     let mut seed = 1u64;
     let mut now = 0u64;
     let times: Vec<u64> = (0..5_000)
-        .map(|_| {
+        .map(|k| {
             seed = seed.wrapping_mul(6364136223846793005).wrapping_add(1442695040888963407);
-            now += (seed >> 33) % 1_801;
+            now += if (2_000..2_300).contains(&k) { 0 } else { (seed >> 33) % 1_801 };
             now
         })
         .collect();

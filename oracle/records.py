@@ -151,7 +151,7 @@ DIFFERENCES = [
         lambda c: c.name == "search_range" and c.model == "refused 9" and (c.rust == "none" or c.rust.isdigit()),
     ),
     (
-        "the first of equal times, where the Rust finds a later one",
+        "of equal times the Rust finds a later one",
         ["buffer 17 0", "start 8 65", *["reading 7"] * 65, "finish 0", "search 7"],
         lambda c: c.name in ("search", "search_range") and c.same_time(),
     ),

@@ -13,6 +13,7 @@ import argparse
 import pathlib
 import random
 import sys
+from itertools import groupby
 
 sys.dont_write_bytecode = True
 import documented
@@ -1068,7 +1069,14 @@ def main():
     for differences, (seen, agreed, asked) in ((DIFFERENCES, bits), (records.DIFFERENCES, record)):
         print(f"{asked} calls asked of the Rust, {agreed} agree, {sum(seen)} differ:")
         for (name, smallest, _), count in zip(differences, seen):
-            print(f"  {count:6}  {name:52} {' / '.join(smallest)}")
+            print(f"  {count:6}  {name:52} {' / '.join(counted(smallest))}")
+
+
+def counted(lines):
+    """The lines, with one that comes several times in a row once."""
+    for line, same in groupby(lines):
+        many = len(list(same))
+        yield line if many == 1 else f"{line} ({many} times)"
 
 
 if __name__ == "__main__":
