@@ -2,12 +2,12 @@
 use mathlib.Core.Path.{_≡_}
 use mathlib.Core.List.{List, [], _∷_}
 use mathlib.Core.Bool.{Bool, true, false, not, _&&_, cond}
-use Prim.Native.Nat.{ℕ, zero, suc, _+_, _-_, _/_}
+use Prim.Native.Nat.{ℕ, suc, _+_, _-_}
 use native.Mathlib.Omega.{arith}
 use lib.Dec.{eqb, leb, ltb}
 use lib.ListN.{length, getD, take, drop}
 use Rattle.errors.specs.Answer.{Answer, value, none, done, refused}
-use Rattle.elias_fano.specs.Ask.{Question, Select, Delta, Rank, Predecessor, Successor, Binsearch, BinsearchRange, Next, ReadFrom, Len, IsEmpty, Universe, HasRank, nth, gap, below, greater, lesser, greatest, smallest, scan, halve, searched, ask}
+use Rattle.elias_fano.specs.Ask.{Question, Select, Delta, Rank, Predecessor, Successor, Binsearch, BinsearchRange, Next, ReadFrom, Len, IsEmpty, Universe, HasRank, nth, gap, below, greater, lesser, greatest, smallest, firstIndex, searched, ask}
 
 abbrev Other : Answer → Type 0
 Other a = a ≡ refused 7 → ⊥
@@ -55,24 +55,14 @@ unfolding smallest
 smallest-other v [] = a-none
 smallest-other v (x ∷ T) = either (leb v x) (lesser x (smallest v T)) (smallest v T) (lesser-other x (smallest v T)) (smallest-other v T)
 
-scan-other : (v k : ℕ) (T : List ℕ) → Other (scan v k T)
-unfolding scan
-scan-other v k [] = a-none
-scan-other v k (x ∷ T) = either (eqb x v) (value k) (scan v (suc k) T) (a-value k) (scan-other v (suc k) T)
-
-halve-other : (v : ℕ) (T : List ℕ) (d a b : ℕ) → Other (halve v T d a b)
-unfolding halve
-halve-other v T zero a b = a-none
-halve-other v T (suc d) a b =
-    let x = getD T ((a + b) / 2) 0 in
-    let lo = cond (ltb v x) a (suc ((a + b) / 2)) in
-    let hi = cond (ltb v x) ((a + b) / 2) b in
-    either (leb (b - a) 64) (scan v a (take (b - a) (drop a T))) (cond (eqb x v) (value ((a + b) / 2)) (halve v T d lo hi)) (scan-other v a (take (b - a) (drop a T)))
-    (either (eqb x v) (value ((a + b) / 2)) (halve v T d lo hi) (a-value ((a + b) / 2)) (halve-other v T d lo hi))
+first-other : (v k : ℕ) (T : List ℕ) → Other (firstIndex v k T)
+unfolding firstIndex
+first-other v k [] = a-none
+first-other v k (x ∷ T) = either (eqb x v) (value k) (firstIndex v (suc k) T) (a-value k) (first-other v (suc k) T)
 
 searched-other : (T : List ℕ) (a b v : ℕ) → Other (searched T a b v)
 unfolding searched
-searched-other T a b v = either (leb b a) none _ a-none (either (ltb (length T) b) (refused 9) _ (a-refusal 9 (λ e. omega arith)) (halve-other v T (b - a) a b))
+searched-other T a b v = either (leb b a) none _ a-none (either (ltb (length T) b) (refused 9) _ (a-refusal 9 (λ e. omega arith)) (first-other v a (take (b - a) (drop a T))))
 
 pub not-seven : (u n : ℕ) (c : Bool) (T : List ℕ) (q : Question) → ask u n c T q ≡ refused 7 → ⊥
 unfolding ask
