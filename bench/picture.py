@@ -16,10 +16,13 @@ SIDES = [("Rust", "#8a8f98", "5 3"), ("port", "#0b6e8f", "none")]
 
 
 def read(text):
-    """The nanoseconds of both sides, by question and number of times; the last row of a name counts."""
+    """The nanoseconds of both sides, by question and number of times, from the tables beside the Rust; the last row of a name counts."""
     rows = {}
-    for question, times, rust, port in ROW.findall(text):
-        rows.setdefault(question, {})[int(times)] = (float(rust), float(port))
+    for table in text.split("| what | ")[1:]:
+        if not table.startswith("Rust"):
+            continue
+        for question, times, rust, port in ROW.findall(table):
+            rows.setdefault(question, {})[int(times)] = (float(rust), float(port))
     return rows
 
 
