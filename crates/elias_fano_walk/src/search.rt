@@ -77,7 +77,7 @@ fn halve_range(image: &[u64], p: Parts, a: usize, b: usize, val: u64, table: &[u
 }
 
 // The same by the high bits of val alone, which are the zeros before its one.
-fn high_start(image: &[u64], p: Parts, a: usize, b: usize, val: u64, table: &[u8; 2048]) -> usize
+fn start_by_high(image: &[u64], p: Parts, a: usize, b: usize, val: u64, table: &[u8; 2048]) -> usize
     requires { ⌜ (Open (now image) p (now table) × Range p a b) ⌝ }
     ensures { λ r. ⌜ ScanStart (times (now (image .entry))) a b val r ⌝ }
 {
@@ -105,7 +105,7 @@ fn scan_start(image: &[u64], p: Parts, a: usize, b: usize, val: u64, table: &[u8
     requires { ⌜ (Open (now image) p (now table) × Range p a b) ⌝ }
     ensures { λ r. ⌜ ScanStart (times (now (image .entry))) a b val r ⌝ }
 {
-    let from = high_start(image, p, a, b, val, table);
+    let from = start_by_high(image, p, a, b, val, table);
     if b - from <= SUBBLOCK_LEN {
         return from;
     }

@@ -8,8 +8,8 @@ use Rattle.elias_fano_walk.proofs.Halved as halved
 use Rattle.elias_fano_walk.proofs.search.scan_start.Statement.{statement}
 use Rattle.elias_fano_walk.proofs.search.scan_start.Tie as tie
 
-high-start-requires : tie.Need-high-start-requires
-high-start-requires c κs = search needs
+start-by-high-requires : tie.Need-start-by-high-requires
+start-by-high-requires c κs = search needs
 
 sub-if1 : tie.Need-sub-if1
 sub-if1 c = search needs
@@ -29,7 +29,7 @@ halve-range-requires c κs = search needs
 returns-2 : tie.Need-returns-2
 returns-2 c =
     let s = c .before .before .before .before .before .before in
-    let from = c .before .before .before .before .high-start .ensures in
+    let from = c .before .before .before .before .start-by-high .ensures in
     let m = c .before .before .before .if1 .left in
     halved.goes-right (s .args .image .now) (s .pre .0 .ok) (s .args .p) (s .pre .0 .parts) (s .args .val) (s .args .a) (s .args .b) (s .pre .1) _ _ (omega (arith, from .from)) (omega arith) (subst (λ (x : ℕ). x < s .args .val) (c .before .before .value-of .ensures) (c .before .if2 .taken)) (c .halve-range .ensures)
 
@@ -40,7 +40,7 @@ pub scan-start-spec : {M : Type 1} → statement M
 scan-start-spec =
     tie.close
     (tie.spec
-    high-start-requires
+    start-by-high-requires
     sub-if1
     returns
     add-next

@@ -1,12 +1,12 @@
--- `elias_fano_walk::search::high_start` meets its contract.
+-- `elias_fano_walk::search::start_by_high` meets its contract.
 -- Assumes nothing.
 use native.Mathlib.Omega.{arith}
 use Rattle.elias_fano.proofs.Accepting.{found}
 use Rattle.elias_fano.proofs.Selecting as selecting
 use Rattle.elias_fano.proofs.Standing as standing
 use Rattle.elias_fano_walk.proofs.Halved as halved
-use Rattle.elias_fano_walk.proofs.search.high_start.Statement.{statement}
-use Rattle.elias_fano_walk.proofs.search.high_start.Tie as tie
+use Rattle.elias_fano_walk.proofs.search.start_by_high.Statement.{statement}
+use Rattle.elias_fano_walk.proofs.search.start_by_high.Tie as tie
 
 sub-high : tie.Need-sub-high
 sub-high c = let s = c .before in standing.six-low (s .args .image .now) (s .args .p) (s .pre .0 .parts) (found (s .args .image .now) (s .pre .0 .ok) .head)
@@ -40,8 +40,8 @@ halve-high-requires c κs =
 returns : tie.Need-returns
 returns c = let s = c .before .before .before .before .before .before in halved.from-high (s .args .image .now) (s .pre .0 .ok) (s .args .p) (s .pre .0 .parts) (s .args .val) (s .args .a) (s .args .b) (s .pre .1) _ (c .halve-high .ensures)
 
-pub high-start-spec : {M : Type 1} → statement M
-high-start-spec =
+pub start-by-high-spec : {M : Type 1} → statement M
+start-by-high-spec =
     tie.close
     (tie.spec
     sub-high
