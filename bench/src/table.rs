@@ -235,7 +235,11 @@ impl Table {
         );
     }
 
+    /// Nothing where no row was asked for.
     pub fn print(&self) {
+        if self.rows.is_empty() {
+            return;
+        }
         let peer = self.peer;
         println!("| what | {peer}, ns | port, ns | port / {peer} | target | |");
         println!("|---|---:|---:|---:|---:|---|");
