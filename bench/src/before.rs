@@ -3,9 +3,10 @@
 use std::hint::black_box;
 
 use crate::port::{self, Answer, Many};
+use crate::questions::absent;
 use crate::record::{burner, LONGEST};
 use crate::table::{is_asked, Table};
-use crate::{rust, Random, SIZES};
+use crate::{rust, Random, QUESTIONS, SIZES};
 
 extern "C" {
     fn before_ef_binsearches(
@@ -22,9 +23,6 @@ const ROWS: [&str; 2] = ["search, hit", "search, miss"];
 
 /// What a search may cost of what it did.
 const TARGET: f64 = 1.15;
-
-/// How often an image is asked.
-const QUESTIONS: usize = 1_000_000;
 
 /// A list, its image without a rank index, and what is searched in it.
 pub struct List {
@@ -61,8 +59,15 @@ pub fn lists(random: &mut Random) -> Vec<List> {
 
 impl List {
     /// None where no row is asked for.
-    fn new(name: String, random: &mut Random, times: impl Fn(&mut Random) -> Vec<u64>) -> Option<Self> {
-        if !ROWS.iter().any(|row| is_asked(&format!("record {row}, {name}"))) {
+    fn new(
+        name: String,
+        random: &mut Random,
+        times: impl Fn(&mut Random) -> Vec<u64>,
+    ) -> Option<Self> {
+        if !ROWS
+            .iter()
+            .any(|row| is_asked(&format!("record {row}, {name}")))
+        {
             return None;
         }
         let times = times(random);
@@ -71,10 +76,11 @@ impl List {
         let image = rust::image_words(&record, times.len());
         let hits = random.places(QUESTIONS, times.len());
         let hits = hits.into_iter().map(|k| times[k]).collect();
-        // a value that is there is moved on to one that is not
-        let miss = |v: usize| (v as u64..).find(|v| times.binary_search(v).is_err());
         let misses = random.places(QUESTIONS, universe as usize);
-        let misses = misses.into_iter().filter_map(miss).collect();
+        let misses = misses
+            .into_iter()
+            .filter_map(|v| absent(&times, v as u64))
+            .collect();
         Some(Self {
             name,
             times,

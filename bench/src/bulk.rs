@@ -8,16 +8,13 @@ use sucds::mii_sequences::EliasFano;
 use crate::port::{self, Answer};
 use crate::record::{at_a_million, name};
 use crate::table::{is_asked, Table};
-use crate::{rust, Random};
+use crate::{rust, Random, QUESTIONS};
 
 /// One bit in so many is set.
 const RARITY: usize = 16;
 
 /// The largest item.
 const LARGEST: usize = 1800;
-
-/// How often the items are asked for.
-const QUESTIONS: usize = 1_000_000;
 
 const FROM_BITS: &str = "from bits with rank";
 
@@ -77,7 +74,11 @@ impl Bits {
     }
 }
 
-const SUMS: [&str; 3] = ["prefix sums build", "prefix sums access", "prefix sums read"];
+const SUMS: [&str; 3] = [
+    "prefix sums build",
+    "prefix sums access",
+    "prefix sums read",
+];
 
 /// Items, and both sides' record of their prefix sums.
 pub struct Sums {
@@ -130,7 +131,14 @@ impl Sums {
             self.places.len(),
             None,
             || rust::record_ask(|p| self.sums.access(p as usize), &self.places, &mut theirs),
-            || port::record_ask(port::DELTAS, black_box(&self.image), &self.places, &mut ours),
+            || {
+                port::record_ask(
+                    port::DELTAS,
+                    black_box(&self.image),
+                    &self.places,
+                    &mut ours,
+                )
+            },
             || port::record_ask(port::DELTAS, black_box(&self.image), &[], &mut []),
         );
         let (mut walked, mut written) = (vec![0; n], vec![0; n]);

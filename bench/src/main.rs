@@ -211,6 +211,9 @@ fn round(table: &mut Table) {
     }
 }
 
+/// How often an image is asked.
+const QUESTIONS: usize = 1_000_000;
+
 const SIZES: [usize; 4] = [1000, 100_000, 1_000_000, 16_777_216];
 
 fn main() {

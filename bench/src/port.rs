@@ -312,7 +312,6 @@ pub fn sums_read(image: &[u64], out: &mut [u64]) -> u64 {
     answer.get().expect("a number")
 }
 
-
 /// Many questions at once.
 pub type Many =
     unsafe extern "C" fn(*const u64, usize, *const u64, usize, *mut u64, usize) -> Answer;

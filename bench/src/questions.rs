@@ -7,10 +7,7 @@ use sucds::mii_sequences::EliasFano;
 use crate::port::{self, Answer, Many};
 use crate::record::{at_a_million, name};
 use crate::table::{is_asked, Items, Table};
-use crate::{rust, Random};
-
-/// How often an image is asked.
-const QUESTIONS: usize = 1_000_000;
+use crate::{rust, Random, QUESTIONS};
 
 pub const ROWS: [&str; 9] = [
     "select",
@@ -32,6 +29,11 @@ pub struct Questions {
     misses: Vec<u64>,
 }
 
+/// A value that is there is moved on to one that is not.
+pub fn absent(times: &[u64], v: u64) -> Option<u64> {
+    (v..).find(|v| times.binary_search(v).is_err())
+}
+
 impl Questions {
     pub fn new(times: &[u64], universe: u64, random: &mut Random) -> Self {
         let (n, u) = (times.len(), universe as usize);
@@ -41,9 +43,7 @@ impl Questions {
         };
         let (ks, values, places) = (some(n), some(u), some(n));
         let hits = places.iter().map(|&k| times[k as usize]).collect();
-        // a value that is there is moved on to one that is not
-        let miss = |&v: &u64| (v..).find(|v| times.binary_search(v).is_err());
-        let misses = values.iter().filter_map(miss).collect();
+        let misses = values.iter().filter_map(|&v| absent(times, v)).collect();
         Self {
             ks,
             values,

@@ -139,6 +139,7 @@ impl Record {
             rust_build(true),
             (|| (), |()| port::record_open(black_box(&self.image))),
         );
-        self.questions.rows(table, &self.times, &self.record, &self.image);
+        self.questions
+            .rows(table, &self.times, &self.record, &self.image);
     }
 }

@@ -6,7 +6,7 @@ use std::hint::black_box;
 use crate::port::{self, Answer};
 use crate::record::at_a_million;
 use crate::table::{is_asked, Table};
-use crate::{rust, Random};
+use crate::{rust, Random, QUESTIONS};
 
 mod c {
     use std::ffi::c_void;
@@ -43,10 +43,12 @@ impl Side {
     }
 }
 
-const ROWS: [&str; 4] = ["build with rank", "push and build with rank", "select", "rank"];
-
-/// How often a vector is asked.
-const QUESTIONS: usize = 1_000_000;
+const ROWS: [&str; 4] = [
+    "build with rank",
+    "push and build with rank",
+    "select",
+    "rank",
+];
 
 /// The longest time between two readings, in seconds; the shortest is 1.
 const LONGEST: usize = 1800;
@@ -128,8 +130,12 @@ impl Strict {
             ),
         );
         let side = &self.side;
-        self.asked(table, &select, 0.75, &self.ks, port::SELECTS, |ks, out| side.selects(ks, out));
-        self.asked(table, &rank, 0.6, &self.values, port::RANKS, |vs, out| side.ranks(vs, out));
+        self.asked(table, &select, 0.75, &self.ks, port::SELECTS, |ks, out| {
+            side.selects(ks, out)
+        });
+        self.asked(table, &rank, 0.6, &self.values, port::RANKS, |vs, out| {
+            side.ranks(vs, out)
+        });
     }
 
     fn asked(

@@ -16,7 +16,6 @@ struct Row {
     what: String,
     items: Items,
     target: Option<f64>,
-    /// What each takes, and what it takes for what it does before.
     peer: Side,
     port: Side,
 }

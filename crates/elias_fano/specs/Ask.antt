@@ -65,12 +65,12 @@ unfoldable pub smallest : ℕ → List ℕ → Answer
 smallest v [] = none
 smallest v (x ∷ T) = cond (leb v x) (lesser x (smallest v T)) (smallest v T)
 
--- the index of the first time that is v; the first of the list has the index k
+-- the number of the first time that is v, document 02's index; the first of the list has the number k
 unfoldable pub firstIndex : ℕ → ℕ → List ℕ → Answer
 firstIndex v k [] = none
 firstIndex v k (x ∷ T) = cond (eqb x v) (value k) (firstIndex v (suc k) T)
 
--- the search for v: the first index from a on and below b with that time. None for an empty or reversed range; 9 for one that ends past the times
+-- the search for v: the first number from a on and below b with that time. None for an empty or reversed range; 9 for one that ends past the times
 unfoldable pub searched : List ℕ → ℕ → ℕ → ℕ → Answer
 searched T a b v = cond (leb b a) none (cond (ltb (length T) b) (refused 9) (firstIndex v a (take (b - a) (drop a T))))
 

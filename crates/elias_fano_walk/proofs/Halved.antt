@@ -67,12 +67,12 @@ module _ (f : ℕ → ℕ) (bits : (i : ℕ) → f i ≤ 1) (len : ℕ) where
       abbrev Part : ℕ → ℕ → Type 0
       Part l u = (l < u) × (u ≤ b) × (u - l < b - a)
 
-      part : (c : Bool) → Part (cond c k a) (cond c b (k + 1))
-      part true = (omega arith, omega arith, omega arith)
-      part false = (omega arith, omega arith, omega arith)
+      either-way : (c : Bool) → Part (cond c k a) (cond c b (k + 1))
+      either-way true = (omega arith, omega arith, omega arith)
+      either-way false = (omega arith, omega arith, omega arith)
 
       pub high-part : Part lo hi
-      high-part = subst₂ Part (sym el) (sym eh) (part t)
+      high-part = subst₂ Part (sym el) (sym eh) (either-way t)
 
       module _ (y : ℕ) (g : select f len k ≡ At y) where
         holds : (c : Bool) → (c ≡ true → y - k < h) → (r : ℕ) → HighStart f len h (cond c k a) (cond c b (k + 1)) r → HighStart f len h a b r

@@ -25,7 +25,7 @@ use Rattle.elias_fano_walk.proofs.Halved.{in-list}
 
 -- ---- the first from a number on
 
--- the first index from j on and below b
+-- the first number from j on and below b with the time v
 abbrev firstFrom : ℕ → List ℕ → ℕ → ℕ → Answer
 firstFrom v T b j = firstIndex v j (take (b - j) (drop j T))
 

@@ -99,8 +99,8 @@ fn start_by_high(image: &[u64], p: Parts, a: usize, b: usize, val: u64, table: &
     )
 }
 
-// The same: by high bits first, so that no low word is read in a run of equal values. Where many values with the high bits of val are below it, these do
-// not tell, and the rest is halved by whole values.
+// The same: by high bits first, so that the halving reads no low word, in a run of equal values too. Where many values with the high bits of val are below
+// it, these do not tell, and the rest is halved by whole values.
 fn scan_start(image: &[u64], p: Parts, a: usize, b: usize, val: u64, table: &[u8; 2048]) -> usize
     requires { ⌜ (Open (now image) p (now table) × Range p a b) ⌝ }
     ensures { λ r. ⌜ ScanStart (times (now (image .entry))) a b val r ⌝ }
