@@ -50,7 +50,7 @@ pub fn lists(random: &mut Random) -> Vec<List> {
     for n in SIZES {
         lists.extend(List::new(format!("{n} times"), random, |r| burner(n, r)));
     }
-    for often in [2, 100, 1_000, 10_000, 1_000_000] {
+    for often in [2, 100, 1_000, 10_000, 100_000, 250_000, 1_000_000] {
         let name = format!("1000000 times, each {often} times");
         lists.extend(List::new(name, random, |r| runs(1_000_000, often, r)));
     }

@@ -3,25 +3,24 @@ use mathlib.Core.Path.{_≡_, refl, sym, ap, ap₂, _∙_, subst}
 use mathlib.Core.List.{List, _∷_}
 use mathlib.Core.Bool.{true}
 use Prim.Native.Nat.{ℕ, zero, suc, _+_, _-_, _≤_, _<_}
-use native.Mathlib.Nat.{le-refl, lt-of-not-le}
+use native.Mathlib.Nat.{le-refl, lt-of-not-le, lt-of-lt-of-le}
 use native.Mathlib.Numerals.{add-one}
-use native.Mathlib.Decide.{decLt}
+use native.Mathlib.Decide.{decLt, ℕ-discrete}
 use native.Mathlib.Omega.{arith}
 use borrow.Author.Tests.{le-ltb, lt-ltb, le-leb, lt-leb, eq-eqb, ne-eqb}
 use lib.ListN.{length, getD, take, drop}
 use lib.Seq.{drop-cons}
 use Rattle.errors.specs.Answer.{Answer, value, none, refused}
 use Rattle.elias_fano_words.specs.Times.{rising}
-use Rattle.elias_fano_words.proofs.Rising.{rising-le}
 use Rattle.elias_fano.specs.declared.image.Parts.{Parts}
 use Rattle.elias_fano.specs.Accept.{times, accepted, partsOf}
 use Rattle.elias_fano.specs.Ask.{Binsearch, BinsearchRange, firstIndex, searched, ask, asked}
 use Rattle.elias_fano.proofs.Images as images
 use Rattle.elias_fano.proofs.Selecting as selecting
 use Rattle.elias_fano_walk.specs.declared.walk.Walk.{Walk}
-use Rattle.elias_fano_walk.specs.Searching.{Range, ScanStart}
+use Rattle.elias_fano_walk.specs.Searching.{Range, ScanSection}
 use Rattle.elias_fano_walk.specs.Walking.{WalkOver}
-use Rattle.elias_fano_walk.proofs.Halved.{in-list}
+use Rattle.elias_fano_walk.proofs.Halved.{not-falling, in-list}
 
 -- ---- the first from a number on
 
@@ -53,23 +52,27 @@ module _ (v : ℕ) (T : List ℕ) (b : ℕ) (up : b ≤ length T) where
       go zero j e f = ap (firstFrom v T b) (let q : j ≡ r = omega arith in q)
       go (suc d) j e f = first-on j (omega arith) (λ q. omega (arith, f j (omega arith) (le-refl j))) ∙ go d (j + 1) (omega arith) (λ i l m. f i l (omega arith))
 
-  -- times that do not fall: past one above v none is v
-  module _ (u : ℕ) (r : rising u 0 T ≡ true) where
-    abbrev Past : ℕ → ℕ → Type 0
-    Past d j = b - j ≤ d → (j < b → v < getD T j 0) → firstFrom v T b j ≡ none
+  -- none is v, if all are above v
+  past : (d j : ℕ) → b - j ≤ d → ((i : ℕ) → j ≤ i → i < b → v < getD T i 0) → firstFrom v T b j ≡ none
+  past zero j h g = first-end j (omega arith)
+  past (suc d) j h g = go (past d (j + 1) (omega arith) (λ i l m. g i (omega arith) m)) (decLt j b)
+    where
+      go : firstFrom v T b (j + 1) ≡ none → Dec (j < b) → firstFrom v T b j ≡ none
+      go ih (yes l) = first-on j l (λ e. omega (arith, g j (le-refl j) l)) ∙ ih
+      go ih (no n) = first-end j (omega (arith, lt-of-not-le n))
 
-    past : (d j : ℕ) → Past d j
-    past zero j h g = first-end j (omega arith)
-    past (suc d) j h g = go (past d (j + 1)) (decLt j b)
-      where
-        go : Past d (j + 1) → Dec (j < b) → firstFrom v T b j ≡ none
-        go ih (yes l) =
-            first-on j l (λ e. omega (arith, g l))
-            ∙ ih (omega arith) (λ m. omega (arith, g l, rising-le u T j r (omega arith)))
-        go ih (no n) = first-end j (omega (arith, lt-of-not-le n))
+  -- so is it past one above v, where times do not fall
+  first-past : (u : ℕ) → rising u 0 T ≡ true → (j : ℕ) → v < getD T j 0 → firstFrom v T b j ≡ none
+  first-past u r j g = past (b - j) j (le-refl (b - j)) (λ i l m. lt-of-lt-of-le g (not-falling u T r j i l (omega arith)))
 
-    first-past : (j : ℕ) → v < getD T j 0 → firstFrom v T b j ≡ none
-    first-past j g = past (b - j) j (le-refl (b - j)) (λ _. g)
+-- a shorter range gives the same, if all after it are above v
+first-until : (v : ℕ) (T : List ℕ) (b e : ℕ) → b ≤ length T → e ≤ b → ((j : ℕ) → e ≤ j → j < b → v < getD T j 0) → (d r : ℕ) → r + d ≡ e → firstFrom v T e r ≡ firstFrom v T b r
+first-until v T b e up k g zero r h = first-end v T e (omega arith) r (omega arith) ∙ sym (past v T b up (b - r) r (le-refl (b - r)) (λ j l m. g j (omega arith) m))
+first-until v T b e up k g (suc d) r h = go (first-until v T b e up k g d (r + 1) (omega arith)) (ℕ-discrete (getD T r 0) v)
+  where
+    go : firstFrom v T e (r + 1) ≡ firstFrom v T b (r + 1) → Dec (getD T r 0 ≡ v) → firstFrom v T e r ≡ firstFrom v T b r
+    go ih (yes q) = first-here v T e (omega arith) r (omega arith) q ∙ sym (first-here v T b up r (omega arith) q)
+    go ih (no q) = first-on v T e (omega arith) r (omega arith) q ∙ ih ∙ sym (first-on v T b up r (omega arith) q)
 
 -- ---- the loop
 
@@ -120,12 +123,20 @@ module _ (i : List ℕ) (ok : accepted i ≡ true) (p : Parts) (ep : p ≡ parts
   unfolding ask searched
   search-refused a b l h = sym (simp (lt-leb b a l, lt-ltb (length (times i)) b (subst (λ (y : ℕ). y < b) (selecting.pushed-is i ok p ep) h)))
 
-  -- what is scanned from a start of a scan on is what is searched
-  pub search-found : (a b : ℕ) → Range p a b → (r : ℕ) → ScanStart (times i) a b v r → (x : Answer) → x ≡ firstFrom v (times i) b r → x ≡ asked i (BinsearchRange a b v)
+  -- what is scanned in a section is what is searched
+  pub search-found : (a b : ℕ) → Range p a b → (r e : ℕ) → ScanSection (times i) a b v r e → (x : Answer) → x ≡ firstFrom v (times i) e r → x ≡ asked i (BinsearchRange a b v)
   unfolding ask searched
-  search-found a b g r s x e =
+  search-found a b g r e s x q =
       let h = in-list i ok p ep v a b g in
-      e ∙ sym (first-skip v (times i) b h a r (s .from) (omega (arith, s .upto)) (s .less)) ∙ sym (simp (lt-leb b a (g .some), le-ltb (length (times i)) b h))
+      let t = s .start in
+      q ∙ first-until v (times i) b e h (s .upto) (s .above) (e - r) r (omega (arith, s .some)) ∙ sym (first-skip v (times i) b h a r (t .from) (omega (arith, t .upto)) (t .less)) ∙ sym (simp (lt-leb b a (g .some), le-ltb (length (times i)) b h))
+
+  -- the first of the range is it
+  pub search-at : (a b : ℕ) → Range p a b → (x : ℕ) → x ≡ getD (times i) a 0 → x ≡ v → value a ≡ asked i (BinsearchRange a b v)
+  unfolding ask searched
+  search-at a b g x e h =
+      let l = in-list i ok p ep v a b g in
+      sym (first-here v (times i) b l a (g .some) (sym e ∙ h)) ∙ sym (simp (lt-leb b a (g .some), le-ltb (length (times i)) b l))
 
   pub search-all : (r : Answer) → r ≡ asked i (BinsearchRange 0 (p .«num_pushed») v) → r ≡ asked i (Binsearch v)
   unfolding ask

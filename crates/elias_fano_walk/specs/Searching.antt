@@ -24,8 +24,22 @@ pub record HighStart (f : ℕ → ℕ) (len h a b r : ℕ) : Type 0 where
   pub upto : r < b
   pub less : (j x : ℕ) → j < r → a ≤ j → select f len j ≡ At x → x < j + h
 
+-- a section of the range, from r on and below e; the ones of the range after it have more than h zeros before them
+pub record HighSection (f : ℕ → ℕ) (len h a b r e : ℕ) : Type 0 where
+  pub start : HighStart f len h a b r
+  pub some : r < e
+  pub upto : e ≤ b
+  pub more : (j x : ℕ) → e ≤ j → j < b → select f len j ≡ At x → j + h < x
+
 -- a number of the range from a on and below b; the values of the range before it are below v
 pub record ScanStart (T : List ℕ) (a b v r : ℕ) : Type 0 where
   pub from : a ≤ r
   pub upto : r < b
   pub less : (j : ℕ) → j < r → a ≤ j → getD T j 0 < v
+
+-- a section of the range, from r on and below e; the values of the range after it are above v
+pub record ScanSection (T : List ℕ) (a b v r e : ℕ) : Type 0 where
+  pub start : ScanStart T a b v r
+  pub some : r < e
+  pub upto : e ≤ b
+  pub above : (j : ℕ) → e ≤ j → j < b → v < getD T j 0

@@ -6,26 +6,41 @@ ghost use mathlib.Core.Path.{_≡_};
 ghost use mathlib.Core.Bool.{true};
 ghost use Prim.Native.Nat.{_-_, _^_, _≤_, _<_};
 ghost use lib.ListN.{take as takeList, drop};
+ghost use Rattle.broadword.specs.Places.{select};
+ghost use Rattle.broadword.specs.declared.Found.the-variants.{At};
 ghost use Rattle.bit_words.specs.Vector.{bitOver};
 ghost use Rattle.darray.specs.Select.{Indexed};
 ghost use Rattle.elias_fano.specs.Accept.{times, ofNumber};
 ghost use Rattle.elias_fano.specs.Ask.{Binsearch, BinsearchRange, firstIndex, asked, query};
-ghost use Rattle.elias_fano.specs.Opening.{Open};
-ghost use Rattle.elias_fano_walk.specs.Searching.{Range, Searchable, HighStart, ScanStart};
-use crate::walk::begin;
+ghost use Rattle.elias_fano.specs.Opening.{Open, OneAt};
+ghost use Rattle.elias_fano_walk.specs.Searching.{Range, Searchable, HighStart, HighSection, ScanStart, ScanSection};
+ghost use Rattle.elias_fano_walk.specs.Walking.{Walkable};
+use crate::walk::begin_at;
 use crate::walk::take;
+use bit_words::WORD_LEN;
+use bit_words::window;
+use broadword::Found;
 use broadword::debruijn64_table;
+use broadword::msb;
 use broadword::select_in_byte_table;
 use darray::select::select_within;
 use darray_positions::scan::SUBBLOCK_LEN;
 use elias_fano::image::Number;
 use elias_fano::image::Opened;
 use elias_fano::image::Parts;
+use elias_fano::image::one_at;
 use elias_fano::image::open;
 use elias_fano::image::value_of;
 use errors::Refusal;
 
 const LINEAR_SCAN_THRESHOLD: usize = 64;
+
+// Inside the crate: what is to be scanned, from the number of a value, whose one stands at the place, up to a later number.
+struct Section {
+    number: usize,
+    place: usize,
+    end: usize,
+}
 
 // Where a scan can start, from a on and below b: the ones before have fewer than `wanted` zeros before them. It calls itself on the part that can hold the
 // first that has not fewer: from the number compared on if that one has fewer, else up to it. 64 or fewer are left to the scan.
@@ -59,6 +74,62 @@ fn halve_high(
     halve_high(high, len, index, positions, wanted, from, to, table)
 }
 
+// The section of the range that can hold the first one with `wanted` zeros before it, by the run of ones up to the one 32 numbers on. If these have as many zeros
+// before them the section begins with the run, if they have more it ends before it: so neither a select nor the scan passes over the zeros before
+// the run, which can be very many between long runs.
+fn high_section(
+    high: &[u64],
+    len: usize,
+    index: &[u64],
+    positions: usize,
+    wanted: usize,
+    a: usize,
+    b: usize,
+    table: &[u8; 2048],
+) -> Section
+    requires { ⌜ (Indexed (now high) len true (now index) positions (now table) × (a < b) × (b ≤ positions) × (b ≤ 2 ^ 32)) ⌝ }
+    ensures { λ r. ⌜ (HighSection (bitOver true (now (high .entry))) len wanted a b (r .number) (r .end) × (select (bitOver true (now (high .entry))) len (r .number) ≡ At (r .place))) ⌝ }
+{
+    let first = select_within(high, len, true, index, positions, table, a);
+    let whole = Section {
+        number: a,
+        place: first,
+        end: b,
+    };
+    if b - a <= SUBBLOCK_LEN {
+        return whole;
+    }
+    let k = a + SUBBLOCK_LEN;
+    let place = select_within(high, len, true, index, positions, table, k);
+    if place - k < wanted {
+        return whole;
+    }
+    if place < WORD_LEN {
+        return whole;
+    }
+    match msb(!window(high, high.len(), place - WORD_LEN)) {
+        Found::At(zero) => {
+            let ones = WORD_LEN - 1 - zero;
+            if SUBBLOCK_LEN <= ones {
+                return whole;
+            }
+            if wanted < place - k {
+                return Section {
+                    number: a,
+                    place: first,
+                    end: k - ones,
+                };
+            }
+            Section {
+                number: k - ones,
+                place: place - ones,
+                end: b,
+            }
+        }
+        Found::Nothing => whole,
+    }
+}
+
 // Where a scan for val can start, from a on and below b: the values before are below val. It calls itself on the part that can hold the first val: from the
 // number compared on if that value is below val, else up to it.
 fn halve_range(image: &[u64], p: Parts, a: usize, b: usize, val: u64, table: &[u8; 2048]) -> usize
@@ -76,62 +147,67 @@ fn halve_range(image: &[u64], p: Parts, a: usize, b: usize, val: u64, table: &[u
     halve_range(image, p, a, k + 1, val, table)
 }
 
-// The same by the high bits of val alone, which are the zeros before its one.
-fn start_by_high(image: &[u64], p: Parts, a: usize, b: usize, val: u64, table: &[u8; 2048]) -> usize
-    requires { ⌜ (Open (now image) p (now table) × Range p a b) ⌝ }
-    ensures { λ r. ⌜ ScanStart (times (now (image .entry))) a b val r ⌝ }
-{
-    let low_at = p.low_at;
-    let ones_at = p.ones_at;
-    let zeros_at = p.zeros_at;
-    let high = &image[6..low_at];
-    let index = &image[ones_at..zeros_at];
-    let wanted = (val >> p.low_len) as usize;
-    halve_high(
-        &high,
-        p.high_len,
-        &index,
-        p.num_pushed as usize,
-        wanted,
-        a,
-        b,
-        table,
-    )
-}
-
-// The same: by high bits first, so that the halving reads no low word, in a run of equal values too. Where many values with the high bits of val are below
-// it, these do not tell, and the rest is halved by whole values.
-fn scan_start(image: &[u64], p: Parts, a: usize, b: usize, val: u64, table: &[u8; 2048]) -> usize
-    requires { ⌜ (Open (now image) p (now table) × Range p a b) ⌝ }
-    ensures { λ r. ⌜ ScanStart (times (now (image .entry))) a b val r ⌝ }
-{
-    let from = start_by_high(image, p, a, b, val, table);
-    if b - from <= SUBBLOCK_LEN {
-        return from;
-    }
-    let next = from + SUBBLOCK_LEN;
-    if value_of(image, p, next, table) < val {
-        return halve_range(image, p, next, b, val, table);
-    }
-    from
-}
-
-// The number of the first value from a on and below b that is val. The values do not fall, so it ends at the first that is not below val.
-fn scan_range(
+// What is to be scanned for val, by the high bits alone, which are the zeros before its one.
+fn section_by_high(
     image: &[u64],
     p: Parts,
     a: usize,
     b: usize,
     val: u64,
     table: &[u8; 2048],
-    places: &[u8; 64],
-) -> Number
-    requires { ⌜ (Searchable (now image) p (now table) (now places) × Range p a b) ⌝ }
-    ensures { λ r. ⌜ ofNumber r ≡ firstIndex val a (takeList (b - a) (drop a (times (now (image .entry))))) ⌝ }
+) -> Section
+    requires { ⌜ (Open (now image) p (now table) × Range p a b) ⌝ }
+    ensures { λ r. ⌜ (ScanSection (times (now (image .entry))) a b val (r .number) (r .end) × OneAt (now (image .entry)) p (r .number) (r .place)) ⌝ }
 {
-    let mut w = begin(image, p, a, table);
-    let mut i = a;
-    while i < b {
+    let low_at = p.low_at;
+    let ones_at = p.ones_at;
+    let zeros_at = p.zeros_at;
+    let high = &image[6..low_at];
+    let index = &image[ones_at..zeros_at];
+    let len = p.high_len;
+    let positions = p.num_pushed as usize;
+    let wanted = (val >> p.low_len) as usize;
+    let from = halve_high(&high, len, &index, positions, wanted, a, b, table);
+    high_section(high, len, index, positions, wanted, from, b, table)
+}
+
+// The same: by high bits first, so that the halving reads no low word, in a run of equal values too. Where many values with the high bits of val are below
+// it, these do not tell, and the rest is halved by whole values.
+fn scan_section(
+    image: &[u64],
+    p: Parts,
+    a: usize,
+    b: usize,
+    val: u64,
+    table: &[u8; 2048],
+) -> Section
+    requires { ⌜ (Open (now image) p (now table) × Range p a b) ⌝ }
+    ensures { λ r. ⌜ (ScanSection (times (now (image .entry))) a b val (r .number) (r .end) × OneAt (now (image .entry)) p (r .number) (r .place)) ⌝ }
+{
+    let section = section_by_high(image, p, a, b, val, table);
+    let first = section.number;
+    let end = section.end;
+    if end - first <= SUBBLOCK_LEN {
+        return section;
+    }
+    let next = first + SUBBLOCK_LEN;
+    if value_of(image, p, next, table) < val {
+        let number = halve_range(image, p, next, end, val, table);
+        let place = one_at(image, p, number, table);
+        return Section { number, place, end };
+    }
+    section
+}
+
+// The number of the first value of the section that is val. The values do not fall, so it ends at the first that is not below val.
+fn scan_range(image: &[u64], p: Parts, section: Section, val: u64, places: &[u8; 64]) -> Number
+    requires { ⌜ (Walkable (now image) p (now places) × OneAt (now image) p (section .number) (section .place) × Range p (section .number) (section .end)) ⌝ }
+    ensures { λ r. ⌜ ofNumber r ≡ firstIndex val (section .number) (takeList (section .end - section .number) (drop (section .number) (times (now (image .entry))))) ⌝ }
+{
+    let end = section.end;
+    let mut i = section.number;
+    let mut w = begin_at(image, p, i, section.place);
+    while i < end {
         let t = take(image, p, w, places);
         let x = t.value;
         if x == val {
@@ -147,7 +223,7 @@ fn scan_range(
     Number::Nothing
 }
 
-// The number of the first value that is val, from a on and below b, of an opened image.
+// The number of the first value that is val, from a on and below b, of an opened image. A range that begins with val needs no search.
 pub fn binsearch_range_opened(
     image: &[u64],
     p: Parts,
@@ -166,8 +242,11 @@ pub fn binsearch_range_opened(
     if b > p.num_pushed as usize {
         return Number::Refused(Refusal::RangeOutOfBounds);
     }
-    let from = scan_start(image, p, a, b, val, table);
-    scan_range(image, p, from, b, val, table, places)
+    if value_of(image, p, a, table) == val {
+        return Number::Is(a);
+    }
+    let section = scan_section(image, p, a, b, val, table);
+    scan_range(image, p, section, val, places)
 }
 
 // The number of the first value that is val, of an opened image.

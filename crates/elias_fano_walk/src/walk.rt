@@ -8,7 +8,7 @@ ghost use mathlib.Core.Bool.{true};
 ghost use Prim.Native.Nat.{suc, _*_, _/_, _^_, _<_};
 ghost use lib.ListN.{getD};
 ghost use Rattle.elias_fano.specs.Accept.{accepted, partsOf, times};
-ghost use Rattle.elias_fano.specs.Opening.{Open};
+ghost use Rattle.elias_fano.specs.Opening.{Open, OneAt};
 ghost use Rattle.elias_fano_walk.specs.Walking.{Walkable, WalkOver, OnesAhead, LowsAhead, OneTaken, lowPart, ofValueStep, valueStepOf};
 use bit_vectors::unary::skip_zeros;
 use bit_vectors::unary::walk_from;
@@ -67,6 +67,21 @@ pub fn ended(k: usize) -> Walk
     }
 }
 
+// The walk from the value with the number k on, whose one stands at `place`.
+pub fn begin_at(image: &[u64], p: Parts, k: usize, place: usize) -> Walk
+    requires { ⌜ OneAt (now image) p k place ⌝ }
+    ensures { λ r. ⌜ (WalkOver (now (image .entry)) p r × (r .number ≡ k)) ⌝ }
+{
+    let start = p.low_at;
+    let ones = walk_from(&image[6..start], place);
+    Walk {
+        number: k,
+        base: place / WORD_LEN * WORD_LEN,
+        rest: ones.buf,
+        lows: 1,
+    }
+}
+
 // The walk from the value with the number k on.
 pub fn begin(image: &[u64], p: Parts, k: usize, table: &[u8; 2048]) -> Walk
     requires { ⌜ Open (now image) p (now table) ⌝ }
@@ -75,15 +90,7 @@ pub fn begin(image: &[u64], p: Parts, k: usize, table: &[u8; 2048]) -> Walk
     if k >= p.num_pushed as usize {
         return ended(k);
     }
-    let start = p.low_at;
-    let place = one_at(image, p, k, table);
-    let ones = walk_from(&image[6..start], place);
-    Walk {
-        number: k,
-        base: place / WORD_LEN * WORD_LEN,
-        rest: ones.buf,
-        lows: 1,
-    }
+    begin_at(image, p, k, one_at(image, p, k, table))
 }
 
 // The high word with the one of the next value, which there is.

@@ -1,12 +1,16 @@
--- `elias_fano_walk::search::start_by_high` meets its contract.
+-- `elias_fano_walk::search::section_by_high` meets its contract.
 -- Assumes nothing.
+use mathlib.Core.Bool.{true}
 use native.Mathlib.Omega.{arith}
+use Rattle.bit_words.specs.Vector.{bitOver}
+use Rattle.bit_words.proofs.Runs.{bitOver-le}
+use Rattle.elias_fano.specs.Opening.{highPart}
 use Rattle.elias_fano.proofs.Accepting.{found}
 use Rattle.elias_fano.proofs.Selecting as selecting
 use Rattle.elias_fano.proofs.Standing as standing
 use Rattle.elias_fano_walk.proofs.Halved as halved
-use Rattle.elias_fano_walk.proofs.search.start_by_high.Statement.{statement}
-use Rattle.elias_fano_walk.proofs.search.start_by_high.Tie as tie
+use Rattle.elias_fano_walk.proofs.search.section_by_high.Statement.{statement}
+use Rattle.elias_fano_walk.proofs.search.section_by_high.Tie as tie
 
 sub-high : tie.Need-sub-high
 sub-high c = let s = c .before in standing.six-low (s .args .image .now) (s .args .p) (s .pre .0 .parts) (found (s .args .image .now) (s .pre .0 .ok) .head)
@@ -37,11 +41,23 @@ halve-high-requires c κs =
     let s = c .before .before .before .before .before in
     (selecting.indexed (s .args .image .now) (s .pre .0 .ok) (s .args .p) (s .pre .0 .parts) _ (s .pre .0 .rule), s .pre .1 .some, s .pre .1 .upto, halved.few (s .args .image .now) (s .pre .0 .ok) (s .args .p) (s .pre .0 .parts) (s .args .val) (s .args .a) (s .args .b) (s .pre .1))
 
-returns : tie.Need-returns
-returns c = let s = c .before .before .before .before .before .before in halved.from-high (s .args .image .now) (s .pre .0 .ok) (s .args .p) (s .pre .0 .parts) (s .args .val) (s .args .a) (s .args .b) (s .pre .1) _ (c .halve-high .ensures)
+high-section-requires : tie.Need-high-section-requires
+high-section-requires c κs =
+    let s = c .before .before .before .before .before .before in
+    (selecting.indexed (s .args .image .now) (s .pre .0 .ok) (s .args .p) (s .pre .0 .parts) _ (s .pre .0 .rule), c .halve-high .ensures .upto, s .pre .1 .upto, halved.few (s .args .image .now) (s .pre .0 .ok) (s .args .p) (s .pre .0 .parts) (s .args .val) (s .args .a) (s .args .b) (s .pre .1))
 
-pub start-by-high-spec : {M : Type 1} → statement M
-start-by-high-spec =
+returns : tie.Need-returns
+returns c =
+    let s = c .before .before .before .before .before .before .before in
+    let high = highPart (s .args .image .now) (s .args .p) in
+    let r = c .high-section .ensures in
+    let section = halved.high-join (bitOver true high) (bitOver-le true high) _ _ (s .args .a) (s .args .b) (s .pre .1 .some) _ _ _ (c .before .halve-high .ensures) (r .0) in (
+      halved.from-high (s .args .image .now) (s .pre .0 .ok) (s .args .p) (s .pre .0 .parts) (s .args .val) (s .args .a) (s .args .b) (s .pre .1) _ _ section,
+      record { ok = s .pre .0 .ok; parts = s .pre .0 .parts; below = omega (arith, section .start .upto, s .pre .1 .upto); place = r .1 },
+    )
+
+pub section-by-high-spec : {M : Type 1} → statement M
+section-by-high-spec =
     tie.close
     (tie.spec
     sub-high
@@ -53,4 +69,5 @@ start-by-high-spec =
     part-index-end
     shr-wanted
     halve-high-requires
+    high-section-requires
     returns)
