@@ -3,7 +3,7 @@ use mathlib.Core.Path.{_≡_, refl, sym, ap, _∙_, subst, subst⁻¹, subst₂}
 use mathlib.Core.List.{List}
 use mathlib.Core.Bool.{Bool, true, false, cond}
 use Prim.Native.Nat.{ℕ, zero, suc, _+_, _-_, _*_, _/_, _^_, _≤_, _<_}
-use native.Mathlib.Nat.{le-refl, le-of-eq, le-trans, lt-of-le-of-lt, lt-of-not-le, add-zero}
+use native.Mathlib.Nat.{le-refl, le-of-eq, le-of-lt, le-trans, lt-of-le-of-lt, lt-of-not-le, add-zero}
 use native.Mathlib.Decide.{decLt, decLe}
 use native.Mathlib.Omega.{arith}
 use borrow.Author.Tests.{ltb-true}
@@ -25,10 +25,11 @@ use Rattle.elias_fano_words.proofs.Bitwise.{count-suc}
 use Rattle.elias_fano_words.proofs.Rising.{rising-le}
 use Rattle.elias_fano.specs.declared.image.Parts.{Parts}
 use Rattle.elias_fano.specs.Accept.{times, accepted, partsOf}
-use Rattle.elias_fano.specs.Opening.{highPart}
+use Rattle.elias_fano.specs.Opening.{OneAt, highPart}
 use Rattle.elias_fano.proofs.Images as images
 use Rattle.elias_fano.proofs.Selecting as selecting
-use Rattle.elias_fano_walk.specs.Searching.{Range, HighStart, HighSection, ScanStart, ScanSection}
+use Rattle.elias_fano_walk.specs.declared.search.Section.{Section}
+use Rattle.elias_fano_walk.specs.Searching.{Range, HighStart, OnesBefore, HighSection, ScanStart, ScanSection}
 
 -- ---- a choice between two numbers
 
@@ -43,6 +44,13 @@ module _ (f : ℕ → ℕ) (bits : (i : ℕ) → f i ≤ 1) (len : ℕ) where
   pub past-number : (k x : ℕ) → select f len k ≡ At x → k ≤ x
   past-number k x e = subst (λ (n : ℕ). n ≤ x) (selected f len k x e .before) (count-le f x bits)
 
+  -- so many places more have so many ones more at most
+  spread : (x y : ℕ) → x ≤ y → count f y ≤ count f x + (y - x)
+  spread x y h =
+      let s : x + (y - x) ≡ y = omega arith in
+      let e : count f y ≡ count f x + count (λ i. f (x + i)) (y - x) = ap (count f) (sym s) ∙ count-add f x (y - x) in
+      omega (arith, e, count-le (λ i. f (x + i)) (y - x) (λ i. bits (x + i)))
+
   -- the zeros before a one do not get fewer
   apart : (j k x y : ℕ) → j ≤ k → select f len j ≡ At x → select f len k ≡ At y → x + k ≤ y + j
   apart j k x y h e g = go (decLe x y)
@@ -54,38 +62,21 @@ module _ (f : ℕ → ℕ) (bits : (i : ℕ) → f i ≤ 1) (len : ℕ) where
       cy = selected f len k y g .before
 
       go : Dec (x ≤ y) → x + k ≤ y + j
-      go (yes l) =
-          let s : x + (y - x) ≡ y = omega arith in
-          let a : count f y ≡ count f x + count (λ i. f (x + i)) (y - x) = ap (count f) (sym s) ∙ count-add f x (y - x) in
-          omega (arith, cx, cy, a, count-le (λ i. f (x + i)) (y - x) (λ i. bits (x + i)))
+      go (yes l) = omega (arith, cx, cy, spread x y l)
       go (no n) =
           let m : count f (suc y) ≤ count f x = count-mono f (suc y) x (omega (arith, lt-of-not-le n)) in
           omega (arith, cx, cy, count-suc f y, selected f len k y g .one)
 
-  -- so many places more have so many ones more at most
-  spread : (x y : ℕ) → x ≤ y → count f y ≤ count f x + (y - x)
-  spread x y h =
-      let s : x + (y - x) ≡ y = omega arith in
-      let e : count f y ≡ count f x + count (λ i. f (x + i)) (y - x) = ap (count f) (sym s) ∙ count-add f x (y - x) in
-      omega (arith, e, count-le (λ i. f (x + i)) (y - x) (λ i. bits (x + i)))
-
-  -- d places after a zero: a one with a number by more than d lower stands before the zero, and so has fewer zeros before it
-  before-zero : (j k x y z d : ℕ) → select f len j ≡ At x → select f len k ≡ At y → f z ≡ 0 → z + d + 1 ≡ y → j + d < k → x + k < y + j
-  before-zero j k x y z d e g none l h =
+  -- the ones before one that stands right after a zero have fewer zeros before them
+  before-zero : (j k x y : ℕ) → select f len j ≡ At x → select f len k ≡ At y → 0 < y → f (y - 1) ≡ 0 → j < k → x + k < y + j
+  before-zero j k x y e g some none l =
       let ex = selected f len j x e .before in
       let ey = selected f len k y g .before in
-      let one = selected f len j x e .one in
-      let next = count-suc f z in
-      let q : x < z = lt-of-not-le (λ (w : z ≤ x). go ex ey one w (decLt z x)) in
-      omega (arith, ex, ey, none, next, spread x z (omega arith), spread (suc z) y (omega arith))
-    where
-      go : count f x ≡ j → count f y ≡ k → f x ≡ 1 → z ≤ x → Dec (z < x) → ⊥
-      go ex ey one w (yes m) = upon ex ey m (decLe x y)
-        where
-          upon : count f x ≡ j → count f y ≡ k → z < x → Dec (x ≤ y) → ⊥
-          upon ex ey m (yes n) = omega (arith, spread x y n)
-          upon ex ey m (no n) = omega (arith, count-mono f y x (omega (arith, lt-of-not-le n)))
-      go ex ey one w (no m) = let s : x ≡ z = omega (arith, lt-of-not-le m) in omega (arith, sym one ∙ ap f s ∙ none)
+      let s : suc (y - 1) ≡ y = omega arith in
+      let next = count-suc f (y - 1) in
+      let same : count f (y - 1) ≡ k = omega (arith, ey, next, none, ap (count f) s) in
+      let q : x < y - 1 = lt-of-not-le (λ (w : y - 1 ≤ x). omega (arith, ex, same, count-mono f (y - 1) x w)) in
+      omega (arith, ex, same, q, spread x (y - 1) (le-of-lt q))
 
   -- as many ones as places, where all are ones
   full : (x d : ℕ) → ((j : ℕ) → j < d → f (x + j) ≡ 1) → count f (x + d) ≡ count f x + d
@@ -95,7 +86,7 @@ module _ (f : ℕ → ℕ) (bits : (i : ℕ) → f i ≤ 1) (len : ℕ) where
       omega (arith, ap (count f) e, count-suc f (x + d), full x d (λ j l. g j (omega arith)), g d (omega arith))
 
   -- the first of a run of ones, d places before one of them
-  pub run-first : (k y d : ℕ) → select f len k ≡ At y → d ≤ y → ((j : ℕ) → j < d → f (y - d + j) ≡ 1) → select f len (k - d) ≡ At (y - d)
+  run-first : (k y d : ℕ) → select f len k ≡ At y → d ≤ y → ((j : ℕ) → j < d → f (y - d + j) ≡ 1) → select f len (k - d) ≡ At (y - d)
   run-first k y d e h g =
       let s = selected f len k y e in
       let q : y - d + d ≡ y = omega arith in
@@ -109,36 +100,47 @@ module _ (f : ℕ → ℕ) (bits : (i : ℕ) → f i ≤ 1) (len : ℕ) where
     pub high-ends : HighStart f len h a b a
     high-ends = record { from = le-refl a; upto = some; less = λ j x l m e. omega arith }
 
-    -- all of the range
-    pub high-all : HighSection f len h a b a b
-    high-all = record { start = high-ends; some = some; upto = le-refl b; more = λ j x l m e. omega arith }
-
     -- a section of what is left from a start on
-    pub high-join : (r s e : ℕ) → HighStart f len h a b r → HighSection f len h r b s e → HighSection f len h a b s e
-    high-join r s e p q = record { start = record { from = omega (arith, p .from, q .start .from); upto = q .start .upto; less = λ j x l m g. go j x l m g (decLt j r) }; some = q .some; upto = q .upto; more = q .more }
+    pub high-join : (r : ℕ) (s : Section) → HighStart f len h a b r → HighSection f len h r b s → HighSection f len h a b s
+    high-join r s p q = record {
+      start = record { from = omega (arith, p .from, q .start .from); upto = q .start .upto; less = λ j x l m g. go j x l m g (decLt j r) };
+      at = q .at;
+      some = q .some;
+      upto = q .upto;
+      more = q .more;
+    }
       where
-        go : (j x : ℕ) → j < s → a ≤ j → select f len j ≡ At x → Dec (j < r) → x < j + h
+        go : (j x : ℕ) → j < s .number → a ≤ j → select f len j ≡ At x → Dec (j < r) → x < j + h
         go j x l m g (yes n) = p .less j x n m g
         go j x l m g (no n) = q .start .less j x l (omega (arith, lt-of-not-le n)) g
 
-    -- a run of ones: d places before the one with the number k
-    module _ (k y d : ℕ) (g : select f len k ≡ At y) (l : a + d < k) (kb : k < b) where
-      -- it begins after a zero, and has as many zeros before it as wanted
-      pub high-from : (z : ℕ) → f z ≡ 0 → z + d + 1 ≡ y → y - k ≡ h → HighSection f len h a b (k - d) b
-      high-from z none q e = record {
-        start = record { from = omega arith; upto = omega arith; less = λ j x o _ s. omega (arith, before-zero j k x y z d s g none q (omega arith), past-number k y g) };
+    -- a run of ones, d of them before that with the number k
+    module _ (k y d : ℕ) (g : select f len k ≡ At y) (run : OnesBefore f y d) (l : a + d < k) (kb : k < b) where
+      first : select f len (k - d) ≡ At (y - d)
+      first = run-first k y d g (le-of-lt (run .upto)) (run .ones)
+
+      -- it has as many zeros before it as wanted
+      pub high-from : y - k ≡ h → HighSection f len h a b (record { number = k - d; place = y - d; end = b })
+      high-from e = record {
+        start = record {
+          from = omega arith;
+          upto = omega arith;
+          less = λ j x o _ s. omega (arith, run .upto, before-zero j (k - d) x (y - d) s first (omega (arith, run .upto)) (run .zero-at) o, past-number k y g);
+        };
+        at = first;
         some = omega arith;
         upto = le-refl b;
         more = λ j x m n s. omega arith;
       }
 
       -- it has more
-      pub high-until : d ≤ y → ((j : ℕ) → j < d → f (y - d + j) ≡ 1) → h < y - k → HighSection f len h a b a (k - d)
-      high-until q ones e = record {
+      pub high-until : (x : ℕ) → select f len a ≡ At x → h < y - k → HighSection f len h a b (record { number = a; place = x; end = k - d })
+      high-until x e m = record {
         start = high-ends;
+        at = e;
         some = omega arith;
         upto = omega arith;
-        more = λ j x m n s. omega (arith, apart (k - d) j (y - d) x m (run-first k y d g q ones) s);
+        more = λ j z n _ s. omega (arith, run .upto, apart (k - d) j (y - d) z n first s);
       }
 
     -- the part that can hold the first, by the one with the number k
@@ -165,25 +167,23 @@ module _ (f : ℕ → ℕ) (bits : (i : ℕ) → f i ≤ 1) (len : ℕ) where
         pub high-holds : t ≡ ltb (y - k) h → (r : ℕ) → HighStart f len h lo hi r → HighStart f len h a b r
         high-holds e r s = holds t (λ q. ltb-true (y - k) h (sym e ∙ q)) r (subst₂ (λ (l u : ℕ). HighStart f len h l u r) el eh s)
 
--- the last zero of the 64 bits before a place, and the ones after it
-pub record LastZero (f : ℕ → ℕ) (end z : ℕ) : Type 0 where
-  pub below : z < 64
-  pub zero-at : f (end - 64 + z) ≡ 0
-  pub ones : (j : ℕ) → j < 63 - z → f (end - (63 - z) + j) ≡ 1
-
-pub last-zero : (ws : List ℕ) (end w z : ℕ) → 64 ≤ end → end ≤ length ws * 64 → w ≡ word 1 (λ i. bitAt (take (length ws) ws) (end - 64 + i)) 64 → last (bit (2 ^ 64 - 1 - w)) 64 ≡ At z → LastZero (bitOver true ws) end z
+-- the ones after the last zero of the 64 bits before a place
+pub after-zero : (ws : List ℕ) (end w z : ℕ) → 64 ≤ end → end ≤ length ws * 64 → w ≡ word 1 (λ i. bitAt (take (length ws) ws) (end - 64 + i)) 64 → last (bit (2 ^ 64 - 1 - w)) 64 ≡ At z → (z < 64) × OnesBefore (bitOver true ws) end (63 - z)
 unfolding bitOver
-last-zero ws end w z h l e q =
+after-zero ws end w z h l e q =
     let r = last-is (bit (2 ^ 64 - 1 - w)) 64 z q in
-    let v = r .within in
-    record {
-      below = v;
-      zero-at = omega (arith, r .one, flipped z v, bitAt-le ws (end - 64 + z));
-      ones = λ j m.
-          let b : z + 1 + j < 64 = omega arith in
-          let s : end - 64 + (z + 1 + j) ≡ end - (63 - z) + j = omega arith in
-          omega (arith, ap (bitAt ws) s, bitAt-le ws (end - 64 + (z + 1 + j)), not-one (bit (2 ^ 64 - 1 - w) (z + 1 + j)) (bit-le (2 ^ 64 - 1 - w) (z + 1 + j)) (r .after (z + 1 + j) (omega arith) b), flipped (z + 1 + j) b);
-    }
+    let v = r .within in (
+      v,
+      record {
+        upto = omega arith;
+        zero-at = let s : end - (63 - z) - 1 ≡ end - 64 + z = omega arith in omega (arith, ap (bitAt ws) s, r .one, flipped z v, bitAt-le ws (end - 64 + z));
+        ones = λ j m.
+            let b : z + 1 + j < 64 = omega arith in
+            let s : end - 64 + (z + 1 + j) ≡ end - (63 - z) + j = omega arith in
+            let o = not-one (bit (2 ^ 64 - 1 - w) (z + 1 + j)) (bit-le (2 ^ 64 - 1 - w) (z + 1 + j)) (r .after (z + 1 + j) (omega arith) b) in
+            omega (arith, ap (bitAt ws) s, bitAt-le ws (end - 64 + (z + 1 + j)), o, flipped (z + 1 + j) b);
+      },
+    )
   where
     flipped : (j : ℕ) → j < 64 → bit (2 ^ 64 - 1 - w) j ≡ 1 - bitAt ws (end - 64 + j)
     flipped j m = ap (λ (y : ℕ). bit (2 ^ 64 - 1 - y) j) e ∙ window-bit false ws (length ws) (end - 64) j m (omega arith)
@@ -223,20 +223,22 @@ module _ (i : List ℕ) (ok : accepted i ≡ true) (p : Parts) (ep : p ≡ parts
   goes-left k r kb s = record { from = s .from; upto = omega (arith, s .upto); less = s .less }
 
   -- the rest of a section, from a value below v on
-  pub section-right : (f e k r : ℕ) → ScanSection (times i) a b v f e → f ≤ k → k < e → getD (times i) k 0 < v → ScanStart (times i) k e v r → ScanSection (times i) a b v r e
-  section-right f e k r s h l g t = record {
-    start = goes-right k r (omega (arith, s .start .from)) (omega (arith, s .upto)) g (record { from = t .from; upto = omega (arith, t .upto, s .upto); less = t .less });
-    some = t .upto;
-    upto = s .upto;
-    above = s .above;
+  pub section-right : (s : Section) (k r x : ℕ) → ScanSection i p a b v s → s .number ≤ k → k < s .end → getD (times i) k 0 < v → ScanStart (times i) k (s .end) v r → OneAt i p r x → ScanSection i p a b v (record { number = r; place = x; end = s .end })
+  section-right s k r x t h l m n o = record {
+    start = goes-right k r (omega (arith, t .start .from)) (omega (arith, t .upto)) m (record { from = n .from; upto = omega (arith, n .upto, t .upto); less = n .less });
+    at = o;
+    some = n .upto;
+    upto = t .upto;
+    above = t .above;
   }
 
   -- fewer zeros are lesser high bits, and those a lesser value
-  pub from-high : (r e : ℕ) → HighSection (bitOver true (highPart i p)) (p .«high_len») (v / 2 ^ p .«low_len») a b r e → ScanSection (times i) a b v r e
-  from-high r e s = record {
-    start = record { from = s .start .from; upto = s .start .upto; less = λ j m n. less j m n };
-    some = s .some;
-    upto = s .upto;
+  pub from-high : (s : Section) → HighSection (bitOver true (highPart i p)) (p .«high_len») (v / 2 ^ p .«low_len») a b s → ScanSection i p a b v s
+  from-high s t = record {
+    start = record { from = t .start .from; upto = t .start .upto; less = λ j m n. less j m n };
+    at = record { ok = ok; parts = ep; below = omega (arith, t .start .upto, g .upto); place = t .at };
+    some = t .some;
+    upto = t .upto;
     above = λ j m n. above j m n;
   }
     where
@@ -249,14 +251,14 @@ module _ (i : List ℕ) (ok : accepted i ≡ true) (p : Parts) (ep : p ≡ parts
           let d = selecting.upper i ok p ep j q _ w ∙ ap (λ (l : ℕ). getD (times i) j 0 / 2 ^ l) (sym (selecting.low-len-is i ok p ep)) in
           (_, w, omega (arith, o, d))
 
-      less : (j : ℕ) → j < r → a ≤ j → getD (times i) j 0 < v
+      less : (j : ℕ) → j < s .number → a ≤ j → getD (times i) j 0 < v
       less j m n =
-          let z = zeros j (omega (arith, s .start .upto)) in
-          let x = s .start .less j _ m n (z .1) in
+          let z = zeros j (omega (arith, t .start .upto)) in
+          let x = t .start .less j _ m n (z .1) in
           lt-of-not-le (λ (w : v ≤ getD (times i) j 0). omega (arith, x, z .2, shr-mono (p .«low_len») w))
 
-      above : (j : ℕ) → e ≤ j → j < b → v < getD (times i) j 0
+      above : (j : ℕ) → s .end ≤ j → j < b → v < getD (times i) j 0
       above j m n =
           let z = zeros j n in
-          let x = s .more j _ m n (z .1) in
+          let x = t .more j _ m n (z .1) in
           lt-of-not-le (λ (w : getD (times i) j 0 ≤ v). omega (arith, x, z .2, shr-mono (p .«low_len») w))

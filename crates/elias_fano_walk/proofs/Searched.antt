@@ -17,6 +17,7 @@ use Rattle.elias_fano.specs.Accept.{times, accepted, partsOf}
 use Rattle.elias_fano.specs.Ask.{Binsearch, BinsearchRange, firstIndex, searched, ask, asked}
 use Rattle.elias_fano.proofs.Images as images
 use Rattle.elias_fano.proofs.Selecting as selecting
+use Rattle.elias_fano_walk.specs.declared.search.Section.{Section}
 use Rattle.elias_fano_walk.specs.declared.walk.Walk.{Walk}
 use Rattle.elias_fano_walk.specs.Searching.{Range, ScanSection}
 use Rattle.elias_fano_walk.specs.Walking.{WalkOver}
@@ -124,12 +125,15 @@ module _ (i : List ℕ) (ok : accepted i ≡ true) (p : Parts) (ep : p ≡ parts
   search-refused a b l h = sym (simp (lt-leb b a l, lt-ltb (length (times i)) b (subst (λ (y : ℕ). y < b) (selecting.pushed-is i ok p ep) h)))
 
   -- what is scanned in a section is what is searched
-  pub search-found : (a b : ℕ) → Range p a b → (r e : ℕ) → ScanSection (times i) a b v r e → (x : Answer) → x ≡ firstFrom v (times i) e r → x ≡ asked i (BinsearchRange a b v)
+  pub search-found : (a b : ℕ) → Range p a b → (s : Section) → ScanSection i p a b v s → (x : Answer) → x ≡ firstFrom v (times i) (s .end) (s .number) → x ≡ asked i (BinsearchRange a b v)
   unfolding ask searched
-  search-found a b g r e s x q =
+  search-found a b g s t x q =
       let h = in-list i ok p ep v a b g in
-      let t = s .start in
-      q ∙ first-until v (times i) b e h (s .upto) (s .above) (e - r) r (omega (arith, s .some)) ∙ sym (first-skip v (times i) b h a r (t .from) (omega (arith, t .upto)) (t .less)) ∙ sym (simp (lt-leb b a (g .some), le-ltb (length (times i)) b h))
+      let r = t .start in
+      q
+      ∙ first-until v (times i) b (s .end) h (t .upto) (t .above) (s .end - s .number) (s .number) (omega (arith, t .some))
+      ∙ sym (first-skip v (times i) b h a (s .number) (r .from) (omega (arith, r .upto)) (r .less))
+      ∙ sym (simp (lt-leb b a (g .some), le-ltb (length (times i)) b h))
 
   -- the first of the range is it
   pub search-at : (a b : ℕ) → Range p a b → (x : ℕ) → x ≡ getD (times i) a 0 → x ≡ v → value a ≡ asked i (BinsearchRange a b v)

@@ -4,16 +4,14 @@
 // middle or next before.
 ghost use mathlib.Core.Path.{_≡_};
 ghost use mathlib.Core.Bool.{true};
-ghost use Prim.Native.Nat.{_-_, _^_, _≤_, _<_};
-ghost use lib.ListN.{take as takeList, drop};
-ghost use Rattle.broadword.specs.Places.{select};
-ghost use Rattle.broadword.specs.declared.Found.the-variants.{At};
+ghost use Prim.Native.Nat.{_-_, _*_, _^_, _≤_, _<_};
+ghost use lib.ListN.{length, take as takeList, drop};
 ghost use Rattle.bit_words.specs.Vector.{bitOver};
 ghost use Rattle.darray.specs.Select.{Indexed};
 ghost use Rattle.elias_fano.specs.Accept.{times, ofNumber};
 ghost use Rattle.elias_fano.specs.Ask.{Binsearch, BinsearchRange, firstIndex, asked, query};
 ghost use Rattle.elias_fano.specs.Opening.{Open, OneAt};
-ghost use Rattle.elias_fano_walk.specs.Searching.{Range, Searchable, HighStart, HighSection, ScanStart, ScanSection};
+ghost use Rattle.elias_fano_walk.specs.Searching.{Range, Searchable, HighStart, OnesBefore, HighSection, ScanStart, ScanSection};
 ghost use Rattle.elias_fano_walk.specs.Walking.{Walkable};
 use crate::walk::begin_at;
 use crate::walk::take;
@@ -74,6 +72,20 @@ fn halve_high(
     halve_high(high, len, index, positions, wanted, from, to, table)
 }
 
+// How many ones stand right before the place: 64 if there are as many, or if the place is below 64.
+fn ones_before(words: &[u64], place: usize) -> usize
+    requires { ⌜ place ≤ length (now words) * 64 ⌝ }
+    ensures { λ r. ⌜ (r < 64 → OnesBefore (bitOver true (now (words .entry))) place r) ⌝ }
+{
+    if place < WORD_LEN {
+        return WORD_LEN;
+    }
+    match msb(!window(words, words.len(), place - WORD_LEN)) {
+        Found::At(zero) => WORD_LEN - 1 - zero,
+        Found::Nothing => WORD_LEN,
+    }
+}
+
 // The section of the range that can hold the first one with `wanted` zeros before it, by the run of ones up to the one 32 numbers on. If these have as many zeros
 // before them the section begins with the run, if they have more it ends before it: so neither a select nor the scan passes over the zeros before
 // the run, which can be very many between long runs.
@@ -88,7 +100,7 @@ fn high_section(
     table: &[u8; 2048],
 ) -> Section
     requires { ⌜ (Indexed (now high) len true (now index) positions (now table) × (a < b) × (b ≤ positions) × (b ≤ 2 ^ 32)) ⌝ }
-    ensures { λ r. ⌜ (HighSection (bitOver true (now (high .entry))) len wanted a b (r .number) (r .end) × (select (bitOver true (now (high .entry))) len (r .number) ≡ At (r .place))) ⌝ }
+    ensures { λ r. ⌜ HighSection (bitOver true (now (high .entry))) len wanted a b r ⌝ }
 {
     let first = select_within(high, len, true, index, positions, table, a);
     let whole = Section {
@@ -101,32 +113,25 @@ fn high_section(
     }
     let k = a + SUBBLOCK_LEN;
     let place = select_within(high, len, true, index, positions, table, k);
-    if place - k < wanted {
+    let zeros = place - k;
+    if zeros < wanted {
         return whole;
     }
-    if place < WORD_LEN {
+    let ones = ones_before(high, place);
+    if SUBBLOCK_LEN <= ones {
         return whole;
     }
-    match msb(!window(high, high.len(), place - WORD_LEN)) {
-        Found::At(zero) => {
-            let ones = WORD_LEN - 1 - zero;
-            if SUBBLOCK_LEN <= ones {
-                return whole;
-            }
-            if wanted < place - k {
-                return Section {
-                    number: a,
-                    place: first,
-                    end: k - ones,
-                };
-            }
-            Section {
-                number: k - ones,
-                place: place - ones,
-                end: b,
-            }
-        }
-        Found::Nothing => whole,
+    if wanted < zeros {
+        return Section {
+            number: a,
+            place: first,
+            end: k - ones,
+        };
+    }
+    Section {
+        number: k - ones,
+        place: place - ones,
+        end: b,
     }
 }
 
@@ -157,7 +162,7 @@ fn section_by_high(
     table: &[u8; 2048],
 ) -> Section
     requires { ⌜ (Open (now image) p (now table) × Range p a b) ⌝ }
-    ensures { λ r. ⌜ (ScanSection (times (now (image .entry))) a b val (r .number) (r .end) × OneAt (now (image .entry)) p (r .number) (r .place)) ⌝ }
+    ensures { λ r. ⌜ ScanSection (now (image .entry)) p a b val r ⌝ }
 {
     let low_at = p.low_at;
     let ones_at = p.ones_at;
@@ -182,7 +187,7 @@ fn scan_section(
     table: &[u8; 2048],
 ) -> Section
     requires { ⌜ (Open (now image) p (now table) × Range p a b) ⌝ }
-    ensures { λ r. ⌜ (ScanSection (times (now (image .entry))) a b val (r .number) (r .end) × OneAt (now (image .entry)) p (r .number) (r .place)) ⌝ }
+    ensures { λ r. ⌜ ScanSection (now (image .entry)) p a b val r ⌝ }
 {
     let section = section_by_high(image, p, a, b, val, table);
     let first = section.number;

@@ -28,7 +28,7 @@ scan-range-requires c κs = search needs
 returns-4 : tie.Need-returns-4
 returns-4 c =
     let s = c .before .before .before .before .before .before .before in
-    searched.search-found (s .args .image .now) (s .pre .opened .ok) (s .args .p) (s .pre .opened .parts) (s .args .val) (s .args .a) (s .args .b) (record { some = c .before .before .before .before .before .if1 .left; upto = c .before .before .before .before .if2 .left }) _ _ (c .before .scan-section .ensures .0) _ (c .scan-range .ensures)
+    searched.search-found (s .args .image .now) (s .pre .opened .ok) (s .args .p) (s .pre .opened .parts) (s .args .val) (s .args .a) (s .args .b) (record { some = c .before .before .before .before .before .if1 .left; upto = c .before .before .before .before .if2 .left }) _ (c .before .scan-section .ensures) _ (c .scan-range .ensures)
 
 pub binsearch-range-opened-spec : {M : Type 1} → statement M
 binsearch-range-opened-spec = tie.close (tie.spec returns returns-2 value-of-requires returns-3 scan-section-requires scan-range-requires returns-4)

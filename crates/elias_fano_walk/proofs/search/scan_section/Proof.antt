@@ -12,7 +12,7 @@ section-by-high-requires : tie.Need-section-by-high-requires
 section-by-high-requires c κs = search needs
 
 sub-if1 : tie.Need-sub-if1
-sub-if1 c = let section = c .section-by-high .ensures .0 in omega (arith, section .some)
+sub-if1 c = omega (arith, c .section-by-high .ensures .some)
 
 returns : tie.Need-returns
 returns c = c .before .section-by-high .ensures
@@ -34,7 +34,7 @@ returns-2 c =
     let s = c .before .before .before .before .before .before .before in
     let m = c .before .before .before .before .if1 .left in
     let below = subst (λ (x : ℕ). x < s .args .val) (c .before .before .before .value-of .ensures) (c .before .before .if2 .taken) in
-    (halved.section-right (s .args .image .now) (s .pre .0 .ok) (s .args .p) (s .pre .0 .parts) (s .args .val) (s .args .a) (s .args .b) (s .pre .1) _ _ _ _ (c .before .before .before .before .before .section-by-high .ensures .0) (omega arith) (omega arith) below (c .before .halve-range .ensures), c .one-at .ensures)
+    halved.section-right (s .args .image .now) (s .pre .0 .ok) (s .args .p) (s .pre .0 .parts) (s .args .val) (s .args .a) (s .args .b) (s .pre .1) _ _ _ _ (c .before .before .before .before .before .section-by-high .ensures) (omega arith) (omega arith) below (c .before .halve-range .ensures) (c .one-at .ensures)
 
 returns-3 : tie.Need-returns-3
 returns-3 c = c .before .before .before .section-by-high .ensures

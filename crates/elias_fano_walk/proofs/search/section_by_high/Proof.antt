@@ -50,11 +50,8 @@ returns : tie.Need-returns
 returns c =
     let s = c .before .before .before .before .before .before .before in
     let high = highPart (s .args .image .now) (s .args .p) in
-    let r = c .high-section .ensures in
-    let section = halved.high-join (bitOver true high) (bitOver-le true high) _ _ (s .args .a) (s .args .b) (s .pre .1 .some) _ _ _ (c .before .halve-high .ensures) (r .0) in (
-      halved.from-high (s .args .image .now) (s .pre .0 .ok) (s .args .p) (s .pre .0 .parts) (s .args .val) (s .args .a) (s .args .b) (s .pre .1) _ _ section,
-      record { ok = s .pre .0 .ok; parts = s .pre .0 .parts; below = omega (arith, section .start .upto, s .pre .1 .upto); place = r .1 },
-    )
+    let section = halved.high-join (bitOver true high) (bitOver-le true high) _ _ (s .args .a) (s .args .b) (s .pre .1 .some) _ _ (c .before .halve-high .ensures) (c .high-section .ensures) in
+    halved.from-high (s .args .image .now) (s .pre .0 .ok) (s .args .p) (s .pre .0 .parts) (s .args .val) (s .args .a) (s .args .b) (s .pre .1) _ section
 
 pub section-by-high-spec : {M : Type 1} → statement M
 section-by-high-spec =
