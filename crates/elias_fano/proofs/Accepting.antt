@@ -18,12 +18,12 @@ use Rattle.darray.specs.Queries.{same}
 use Rattle.darray.proofs.Matching.{same-refl}
 use Rattle.elias_fano_words.specs.Sizes.{lowLen, highLen}
 use Rattle.elias_fano_words.specs.Image.{lowNumber, spilled, highWords, lowWords, highPositions, image}
-use Rattle.elias_fano_words.specs.Times.{rising, bitWords, timesIn, holds}
+use Rattle.elias_fano_words.specs.Times.{rising, unrepeatedIf, bitWords, timesIn, holds, holdsIf}
 use Rattle.elias_fano_words.proofs.Decode.{times-of, length-high, count-high}
 use Rattle.elias_fano_words.proofs.Holds.{fit-held, length-held}
-use Rattle.broadword.proofs.Truth.{true-and}
+use Rattle.broadword.proofs.Truth.{and-true, true-and}
 use Rattle.elias_fano_words.proofs.Valid.{valid-high}
-use Rattle.elias_fano.specs.Accept.{fit, universe, declared, pushed, ranked, times, accepted, indexLen}
+use Rattle.elias_fano.specs.Accept.{fit, universe, declared, pushed, ranked, times, accepted, acceptedIf, indexLen}
 use Rattle.elias_fano.specs.Opening.{highOf, onesIn, zerosIn, highIn, bitsIn, Headed, Indexes}
 use Rattle.elias_fano.proofs.Images.{Fits, of-fits, is-fit, is-image}
 use Rattle.elias_fano.proofs.Parts.{index-length, all-bits, ones-are, ones-many, zeros-many, headed, holds-in, indexes-in}
@@ -193,12 +193,41 @@ module _ (i : List ℕ) (head : Headed i) (bits : holds (universe i) (declared i
         sym (take-append-drop 6 i) ∙ ap₂ (λ (a b : List ℕ). a ++ b) header-is (body-is ∙ append-assoc (highWords u n T) low (ones ++ zeros))
         ∙ ap (λ (k : ℕ). (u ∷ n ∷ length T ∷ flag c ∷ spilled (highPositions u n true T) ∷ cond c (spilled (highPositions u n false T)) 0 ∷ []) ++ (highWords u n T ++ (numberWords (wordsFor (k * lowLen u n)) (lowNumber (lowLen u n) T) ++ (ones ++ zeros)))) (sym length-T)
 
-    pub accepts : Fit i → accepted i ≡ true
+    accepts : Fit i → accepted i ≡ true
     unfolding accepted
     accepts fits =
         ap (λ (S : List ℕ). fit u n S && same i (image u n c S)) times-is
         ∙ true-and (fit u n T) (same i (image u n c T)) (of-fits u n T (record { small = fits 0; some = head .counts .some; most = head .counts .most; few = few; rises = rises }))
         (ap (same i) (sym image-is) ∙ same-refl i)
+
+-- ---- without a repeat, where that is asked for
+
+module _ (i : List ℕ) (strict : Bool) where
+  abbrev bits-hold : Bool
+  bits-hold = holdsIf (universe i) (declared i) strict (pushed i) (bitsIn i)
+
+  abbrev apart : Bool
+  apart = unrepeatedIf strict (timesIn (universe i) (declared i) (pushed i) (bitsIn i))
+
+  abbrev bits : Bool
+  bits = holds (universe i) (declared i) (pushed i) (bitsIn i)
+
+  pub accepted-of : acceptedIf strict i ≡ true → accepted i ≡ true
+  accepted-of a = and-true (unrepeatedIf strict (times i)) (accepted i) a .1
+
+  pub holds-accepted : acceptedIf strict i ≡ true → bits-hold ≡ true
+  holds-accepted a =
+      let b = and-true (unrepeatedIf strict (times i)) (accepted i) a in
+      let f = found i (b .1) in
+      true-and apart bits (sym (ap (unrepeatedIf strict) (times-is i (f .head) (f .bits) (f .indexed))) ∙ b .0) (f .bits)
+
+  pub bits-of : bits-hold ≡ true → bits ≡ true
+  bits-of h = and-true apart bits h .1
+
+  pub accepts-if : Headed i → bits-hold ≡ true → Indexes i → Fit i → acceptedIf strict i ≡ true
+  accepts-if head h indexed fits =
+      let b = and-true apart bits h in
+      true-and (unrepeatedIf strict (times i)) (accepted i) (ap (unrepeatedIf strict) (times-is i head (b .1) indexed) ∙ b .0) (accepts i head (b .1) indexed fits)
 
 -- the high words have no padding
 pub valid-part : (i : List ℕ) → Headed i → holds (universe i) (declared i) (pushed i) (bitsIn i) ≡ true → invalid (highIn i) (highOf i) ≡ false

@@ -12,7 +12,7 @@ use Rattle.elias_fano.specs.declared.image.Header.the-variants as head
 use Rattle.elias_fano.specs.declared.image.Opened.{Opened}
 use Rattle.elias_fano.specs.declared.image.Opened.the-variants as opened
 use Rattle.elias_fano.specs.declared.image.Parts.{Parts}
-use Rattle.elias_fano.specs.Accept.{accepted, partsOf, parts, unopened, ofOpened, openOf}
+use Rattle.elias_fano.specs.Accept.{accepted, partsOf, parts, unopened, ofOpened, acceptedIf, openIf, openOf}
 use Rattle.elias_fano.specs.Ask.{Question, asked, query}
 use Rattle.elias_fano.specs.Opening.{Headed, Heads}
 
@@ -39,13 +39,11 @@ module _ (i : List ℕ) where
   not-accepted true h = absurd (h refl)
   not-accepted false h = refl
 
-  pub open-refused : (accepted i ≡ true → ⊥) → unopened 7 ≡ openOf i
-  unfolding openOf
-  open-refused h = sym (ap (λ (b : Bool). cond b (parts (partsOf i)) (unopened 7)) (not-accepted (accepted i) h))
+  pub open-refused : (strict : Bool) → (acceptedIf strict i ≡ true → ⊥) → unopened 7 ≡ openIf strict i
+  open-refused strict h = sym (ap (λ (b : Bool). cond b (parts (partsOf i)) (unopened 7)) (not-accepted (acceptedIf strict i) h))
 
-  pub open-image : (p : Parts) → p ≡ partsOf i → accepted i ≡ true → parts p ≡ openOf i
-  unfolding openOf
-  open-image p e h = ap parts e ∙ sym (ap (λ (b : Bool). cond b (parts (partsOf i)) (unopened 7)) h)
+  pub open-image : (strict : Bool) (p : Parts) → p ≡ partsOf i → acceptedIf strict i ≡ true → parts p ≡ openIf strict i
+  open-image strict p e h = ap parts e ∙ sym (ap (λ (b : Bool). cond b (parts (partsOf i)) (unopened 7)) h)
 
   -- ---- a question
 

@@ -117,7 +117,7 @@ module _ (i : List ℕ) (ok : accepted i ≡ true) (p : Parts) (ep : p ≡ parts
         let a = up-to in
         let b = product-small in
         let e = ap length low-is ∙ length-numberWords lw (lowNumber l T) in
-        record { room = omega arith; few = omega arith }
+        record { number = omega (arith, in-list, images.is-fit i ok .few, images.is-fit i ok .most); room = omega arith; few = omega arith }
 
     -- ---- what they find
 

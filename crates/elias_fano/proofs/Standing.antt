@@ -14,7 +14,7 @@ use Rattle.bit_words.proofs.Runs.{bitOver-le}
 use Rattle.bit_words.proofs.Valid.{valid}
 use Rattle.elias_fano_words.specs.Checks.{Checkable}
 use Rattle.elias_fano_words.specs.Sizes.{lowLen}
-use Rattle.elias_fano_words.specs.Times.{holds}
+use Rattle.elias_fano_words.specs.Times.{holds, holdsIf}
 use Rattle.elias_fano_words.specs.declared.check.Checked.{Checked}
 use Rattle.elias_fano_words.specs.declared.check.Checked.the-variants as checked
 use Rattle.elias_fano.specs.declared.image.Parts.{Parts}
@@ -107,16 +107,17 @@ module _ (i : List ℕ) (p : Parts) (ep : p ≡ partsOf i) (h : Headed i) where
         room = let l = length-bits in let e = ones-is in omega arith;
       })
 
-  held-is : holds (p .universe) (p .«num_vals») (p .«num_pushed») (take (p .«ones_at» - 6) (drop 6 i)) ≡ holds (universe i) (declared i) (pushed i) (bitsIn i)
-  unfolding partsBy
-  held-is = ap (λ (q : Parts). holds (q .universe) (q .«num_vals») (q .«num_pushed») (take (p .«ones_at» - 6) (drop 6 i))) ep ∙ ap (holds (universe i) (declared i) (pushed i)) bits-part
+  module _ (strict : Bool) where
+    held-is : holdsIf (p .universe) (p .«num_vals») strict (p .«num_pushed») (take (p .«ones_at» - 6) (drop 6 i)) ≡ holdsIf (universe i) (declared i) strict (pushed i) (bitsIn i)
+    unfolding partsBy
+    held-is = ap (λ (q : Parts). holdsIf (q .universe) (q .«num_vals») strict (q .«num_pushed») (take (p .«ones_at» - 6) (drop 6 i))) ep ∙ ap (holdsIf (universe i) (declared i) strict (pushed i)) bits-part
 
-  module _ (r : Checked) (t : ℕ) (er : r ≡ cond (holds (p .universe) (p .«num_vals») (p .«num_pushed») (take (p .«ones_at» - 6) (drop 6 i))) (checked.Last t) checked.Wrong) where
-    pub held : (x : ℕ) → r ≡ checked.Last x → true ≡ holds (universe i) (declared i) (pushed i) (bitsIn i)
-    held x e = checked-yes _ x t (sym e ∙ er) ∙ held-is
+    module _ (r : Checked) (t : ℕ) (er : r ≡ cond (holdsIf (p .universe) (p .«num_vals») strict (p .«num_pushed») (take (p .«ones_at» - 6) (drop 6 i))) (checked.Last t) checked.Wrong) where
+      pub held : (x : ℕ) → r ≡ checked.Last x → true ≡ holdsIf (universe i) (declared i) strict (pushed i) (bitsIn i)
+      held x e = checked-yes _ x t (sym e ∙ er) ∙ held-is
 
-    pub not-held : r ≡ checked.Wrong → false ≡ holds (universe i) (declared i) (pushed i) (bitsIn i)
-    not-held e = checked-no _ t (sym e ∙ er) ∙ held-is
+      pub not-held : r ≡ checked.Wrong → false ≡ holdsIf (universe i) (declared i) strict (pushed i) (bitsIn i)
+      not-held e = checked-no _ t (sym e ∙ er) ∙ held-is
 
 -- what is demanded of the high words to compare an index with theirs, or to select through it
 module _ (i : List ℕ) (p : Parts) (ep : p ≡ partsOf i) (h : Headed i) (hu : universe i < 2 ^ 64) (b : holds (universe i) (declared i) (pushed i) (bitsIn i) ≡ true) where

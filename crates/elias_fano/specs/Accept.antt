@@ -1,7 +1,7 @@
 -- When an image is accepted, what it holds, and what the queries answer. i is an image. Document 01, "The image" and "The book of demand 3".
 -- Assumes nothing.
 use mathlib.Core.List.{List}
-use mathlib.Core.Bool.{Bool, _&&_, cond}
+use mathlib.Core.Bool.{Bool, false, _&&_, cond}
 use Prim.Native.Nat.{ℕ, _+_, _*_, _/_, _^_}
 use lib.Dec.{eqb, leb, ltb}
 use lib.ListN.{length, getD, drop}
@@ -11,7 +11,7 @@ use Rattle.bit_words.specs.Vector.{wordsFor}
 use Rattle.darray.specs.Queries.{same}
 use Rattle.elias_fano_words.specs.Sizes.{lowLen, highLen, lowAt}
 use Rattle.elias_fano_words.specs.Image.{image}
-use Rattle.elias_fano_words.specs.Times.{rising, timesIn}
+use Rattle.elias_fano_words.specs.Times.{rising, unrepeatedIf, timesIn}
 use Rattle.elias_fano.specs.declared.image.Parts.{Parts}
 use Rattle.elias_fano.specs.declared.image.Opened.{Opened}
 use Rattle.elias_fano.specs.declared.image.Opened.the-variants as opened
@@ -45,6 +45,10 @@ times i = timesIn (universe i) (declared i) (pushed i) (drop 6 i)
 -- it is word for word the image of that list
 unfoldable pub accepted : List ℕ → Bool
 accepted i = fit (universe i) (declared i) (times i) && same i (image (universe i) (declared i) (ranked i) (times i))
+
+-- and repeats no time, where that is asked for
+abbrev pub acceptedIf : Bool → List ℕ → Bool
+acceptedIf strict i = unrepeatedIf strict (times i) && accepted i
 
 -- ---- where its parts stand
 
@@ -97,5 +101,8 @@ ofValue (val.Refused e) = refused (numberOf e)
 
 -- ---- opening; 7 comes first
 
+abbrev pub openIf : Bool → List ℕ → Opening
+openIf strict i = cond (acceptedIf strict i) (parts (partsOf i)) (unopened 7)
+
 unfoldable pub openOf : List ℕ → Opening
-openOf i = cond (accepted i) (parts (partsOf i)) (unopened 7)
+openOf i = openIf false i

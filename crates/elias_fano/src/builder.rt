@@ -209,6 +209,7 @@ fn is_intact(b: Builder, s: Sizes, words: &[u64]) -> bool
         b.num_pushed,
         s.low_len,
         s.high_len,
+        false,
     ) {
         Checked::Last(last) => last == b.last,
         Checked::Wrong => false,

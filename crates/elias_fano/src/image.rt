@@ -4,8 +4,8 @@ ghost use mathlib.Core.Path.{_≡_};
 ghost use Prim.Native.Nat.{_-_, _^_, _≤_, _<_};
 ghost use lib.ListN.{getD};
 ghost use Rattle.darray.specs.Pending.{Decides};
-ghost use Rattle.elias_fano_words.specs.Times.{holds};
-ghost use Rattle.elias_fano.specs.Accept.{universe as universeOf, declared, pushed, indexLen, partsBy, partsOf, times, ofOpened, openOf, ofValue};
+ghost use Rattle.elias_fano_words.specs.Times.{holds, holdsIf};
+ghost use Rattle.elias_fano.specs.Accept.{universe as universeOf, declared, pushed, indexLen, partsBy, partsOf, times, ofOpened, openIf, openOf, ofValue};
 ghost use Rattle.elias_fano.specs.Ask.{Select, asked, query};
 ghost use Rattle.elias_fano.specs.Opening.{Counts, Limits, Complete, Headed, Heads, bitsIn, Indexes, Open, OneAt};
 use bit_words::words_for;
@@ -176,10 +176,10 @@ fn read_header(image: &[u64]) -> Header
     Header::Parts(p)
 }
 
-// Whether the high and the low words hold nothing but the values, in order.
-fn holds_values(image: &[u64], p: Parts) -> bool
+// Whether the high and the low words hold nothing but the values, in order, and with `strict` none twice.
+fn holds_values(image: &[u64], p: Parts, strict: bool) -> bool
     requires { ⌜ ((p ≡ partsOf (now image)) × Headed (now image)) ⌝ }
-    ensures { λ r. ⌜ r ≡ holds (universeOf (now (image .entry))) (declared (now (image .entry))) (pushed (now (image .entry))) (bitsIn (now (image .entry))) ⌝ }
+    ensures { λ r. ⌜ r ≡ holdsIf (universeOf (now (image .entry))) (declared (now (image .entry))) strict (pushed (now (image .entry))) (bitsIn (now (image .entry))) ⌝ }
 {
     let ones_at = p.ones_at;
     match check(
@@ -189,6 +189,7 @@ fn holds_values(image: &[u64], p: Parts) -> bool
         p.num_pushed,
         p.low_len,
         p.high_len,
+        strict,
     ) {
         Checked::Last(_last) => true,
         Checked::Wrong => false,
@@ -214,20 +215,27 @@ fn has_indexes(image: &[u64], p: Parts) -> bool
     true
 }
 
-// Decides whether an image is one that some run writes (document 01: opening), in time linear in its words, and tells where its parts stand.
-pub fn open(image: &[u64]) -> Opened
-    ensures { λ r. ⌜ ofOpened r ≡ openOf (now (image .entry)) ⌝ }
+// Decides whether an image is one that some run writes and, with `strict`, repeats no value, in time linear in its words, and tells where its parts stand.
+pub fn open_if(image: &[u64], strict: bool) -> Opened
+    ensures { λ r. ⌜ ofOpened r ≡ openIf strict (now (image .entry)) ⌝ }
 {
     let Header::Parts(p) = read_header(image) else {
         return Opened::Refused(Refusal::Invalid);
     };
-    if !holds_values(image, p) {
+    if !holds_values(image, p, strict) {
         return Opened::Refused(Refusal::Invalid);
     }
     if !has_indexes(image, p) {
         return Opened::Refused(Refusal::Invalid);
     }
     Opened::Image(p)
+}
+
+// The same of a record, which may repeat values (document 01: opening).
+pub fn open(image: &[u64]) -> Opened
+    ensures { λ r. ⌜ ofOpened r ≡ openOf (now (image .entry)) ⌝ }
+{
+    open_if(image, false)
 }
 
 // The value with the number k, whose one stands at `place`.

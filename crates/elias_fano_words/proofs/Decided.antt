@@ -24,7 +24,7 @@ use Rattle.darray_positions.specs.Index.{table}
 use Rattle.elias_fano_words.specs.declared.check.Checked.{Checked}
 use Rattle.elias_fano_words.specs.declared.check.Checked.the-variants as checked
 use Rattle.elias_fano_words.specs.Sizes.{lowLen, highLen}
-use Rattle.elias_fano_words.specs.Times.{lastOf, timeIn, timesIn, holds}
+use Rattle.elias_fano_words.specs.Times.{lastOf, timeIn, timesIn, holdsIf}
 use Rattle.elias_fano_words.specs.Checks.{lowBits, InOrder, Clear, Held, LastOne, timeAt, Filled, Checkable}
 use Rattle.elias_fano_words.proofs.Ordering.{Ordered}
 use Rattle.elias_fano_words.proofs.Bitwise.{count-one}
@@ -34,8 +34,8 @@ use Rattle.elias_fano_words.proofs.LastTime.{below}
 use Rattle.elias_fano_words.proofs.Rising.{lastOf-table}
 
 -- what `check` answers
-abbrev answer : ℕ → ℕ → ℕ → List ℕ → Checked
-answer u n m ws = cond (holds u n m ws) (checked.Last (lastOf (timesIn u n m ws))) checked.Wrong
+abbrev answer : Bool → ℕ → ℕ → ℕ → List ℕ → Checked
+answer strict u n m ws = cond (holdsIf u n strict m ws) (checked.Last (lastOf (timesIn u n m ws))) checked.Wrong
 
 -- the high words, s of them, and the low words after them, as the program parts them
 abbrev front : ℕ → List ℕ → List ℕ
@@ -54,14 +54,14 @@ no-time : (f : ℕ → ℕ) (m : ℕ) → m ≡ 0 → lastOf (table f m) ≡ 0
 unfolding table
 no-time f m e = ap (λ (k : ℕ). lastOf (table f k)) e
 
--- the words and numbers that are checked, of which s are high words
-pub record Given (u n m l len s : ℕ) (ws : List ℕ) : Type 0 where
+-- the words and numbers that are checked, of which s are high words, and whether a repeat is wrong
+pub record Given (strict : Bool) (u n m l len s : ℕ) (ws : List ℕ) : Type 0 where
   pub fit : Fit ws
   pub fits : u < 2 ^ 64
   pub ok : Checkable u n m l len ws
   pub is : s ≡ wordsFor len
 
-module _ {u n m l len s : ℕ} {ws : List ℕ} (d : Given u n m l len s ws) where
+module _ {strict : Bool} {u n m l len s : ℕ} {ws : List ℕ} (d : Given strict u n m l len s ws) where
   abbrev high : List ℕ
   high = front s ws
 
@@ -103,6 +103,7 @@ module _ {u n m l len s : ℕ} {ws : List ℕ} (d : Given u n m l len s ws) wher
 
   pub low-held : Held l low m
   low-held = record {
+    number = omega (arith, d .ok .upto, d .ok .few);
     room = let e : m * l ≡ m * lowLen u n = ap (λ (k : ℕ). m * k) (d .ok .low) in omega (arith, room);
     few = let h = few-low in omega arith;
   }
@@ -112,30 +113,30 @@ module _ {u n m l len s : ℕ} {ws : List ℕ} (d : Given u n m l len s ws) wher
   fit-parts : Fit (high ++ low)
   fit-parts = subst⁻¹ Fit (parted s ws) (d .fit)
 
-  wrong : (Ordered u n m high low → ⊥) → checked.Wrong ≡ answer u n m ws
-  wrong z = by (holds u n m ws) refl
+  wrong : (Ordered strict u n m high low → ⊥) → checked.Wrong ≡ answer strict u n m ws
+  wrong z = by (holdsIf u n strict m ws) refl
     where
-      by : (b : Bool) → holds u n m ws ≡ b → checked.Wrong ≡ cond b (checked.Last (lastOf (timesIn u n m ws))) checked.Wrong
-      by true e = absurd (z (held.of-holds u n m high low size (d .ok .upto) room (ap (holds u n m) (parted s ws) ∙ e)))
+      by : (b : Bool) → holdsIf u n strict m ws ≡ b → checked.Wrong ≡ cond b (checked.Last (lastOf (timesIn u n m ws))) checked.Wrong
+      by true e = absurd (z (held.of-holds u n m high low size (d .ok .upto) room strict (ap (holdsIf u n strict m) (parted s ws) ∙ e)))
       by false e = refl
 
-  right : Ordered u n m high low → (t : ℕ) → t ≡ lastOf (table (timeIn u n high low) m) → checked.Last t ≡ answer u n m ws
+  right : Ordered strict u n m high low → (t : ℕ) → t ≡ lastOf (table (timeIn u n high low) m) → checked.Last t ≡ answer strict u n m ws
   right o t e =
-      let h : holds u n m ws ≡ true = ap (holds u n m) (sym (parted s ws)) ∙ held.holds-of u n m high low size (d .ok .upto) room fit-parts o in
+      let h : holdsIf u n strict m ws ≡ true = ap (holdsIf u n strict m) (sym (parted s ws)) ∙ held.holds-of u n m high low size (d .ok .upto) room strict fit-parts o in
       let T : timesIn u n m ws ≡ table (timeIn u n high low) m = ap (timesIn u n m) (sym (parted s ws)) ∙ held.times-are u n m high low size in
       ap checked.Last (e ∙ ap lastOf (sym T)) ∙ ap (λ b. cond b (checked.Last (lastOf (timesIn u n m ws))) checked.Wrong) (sym h)
 
-  pub not-clear : (Clear high len → ⊥) → checked.Wrong ≡ answer u n m ws
+  pub not-clear : (Clear high len → ⊥) → checked.Wrong ≡ answer strict u n m ws
   not-clear z = wrong (λ o. z (subst⁻¹ (Clear high) (d .ok .high) (o .high-clear)))
 
-  pub not-ones : (count f len ≡ m → ⊥) → checked.Wrong ≡ answer u n m ws
+  pub not-ones : (count f len ≡ m → ⊥) → checked.Wrong ≡ answer strict u n m ws
   not-ones z = wrong (λ o. z (ap (count f) (d .ok .high) ∙ o .ones))
 
-  pub not-low : (Clear low (m * l) → ⊥) → checked.Wrong ≡ answer u n m ws
+  pub not-low : (Clear low (m * l) → ⊥) → checked.Wrong ≡ answer strict u n m ws
   not-low z = wrong (λ o. z (subst⁻¹ (λ (k : ℕ). Clear low (m * k)) (d .ok .low) (o .low-clear)))
 
-  pub not-order : (InOrder l high low → ⊥) → checked.Wrong ≡ answer u n m ws
-  not-order z = wrong (λ o. z (subst⁻¹ (λ (k : ℕ). InOrder k high low) (d .ok .low) (o .order)))
+  pub not-order : (InOrder strict l high low → ⊥) → checked.Wrong ≡ answer strict u n m ws
+  not-order z = wrong (λ o. z (subst⁻¹ (λ (k : ℕ). InOrder strict k high low) (d .ok .low) (o .order)))
 
   -- ---- as many ones as times
 
@@ -190,23 +191,23 @@ module _ {u n m l len s : ℕ} {ws : List ℕ} (d : Given u n m l len s ws) wher
 
     -- ---- and all else is right
 
-    module _ (low-clear : Clear low (m * l)) (order : InOrder l high low) where
-      ordered : (0 < m → timeIn u n high low (m - 1) < u) → Ordered u n m high low
+    module _ (low-clear : Clear low (m * l)) (order : InOrder strict l high low) where
+      ordered : (0 < m → timeIn u n high low (m - 1) < u) → Ordered strict u n m high low
       ordered h = record {
         high-clear = subst (Clear high) (d .ok .high) clear;
         ones = ap (count f) (sym (d .ok .high)) ∙ ones;
         low-clear = subst (λ (k : ℕ). Clear low (m * k)) (d .ok .low) low-clear;
-        order = subst (λ (k : ℕ). InOrder k high low) (d .ok .low) order;
+        order = subst (λ (k : ℕ). InOrder strict k high low) (d .ok .low) order;
         below = h;
       }
 
-      pub none : m ≡ 0 → checked.Last 0 ≡ answer u n m ws
+      pub none : m ≡ 0 → checked.Last 0 ≡ answer strict u n m ws
       none e = right (ordered (λ h. absurd (omega arith))) 0 (sym (no-time (timeIn u n high low) m e))
 
-      pub by-last : (m ≡ 0 → ⊥) → (c : Checked) → ((p : ℕ) → LastOne high p → c ≡ below u (timeAt l low (m - 1) p)) → c ≡ answer u n m ws
+      pub by-last : (m ≡ 0 → ⊥) → (c : Checked) → ((p : ℕ) → LastOne high p → c ≡ below u (timeAt l low (m - 1) p)) → c ≡ answer strict u n m ws
       by-last some c h = h (place some) (last-one some) ∙ by (ltb (timeAt l low (m - 1) (place some)) u) refl
         where
-          by : (b : Bool) → ltb (timeAt l low (m - 1) (place some)) u ≡ b → cond b (checked.Last (timeAt l low (m - 1) (place some))) checked.Wrong ≡ answer u n m ws
+          by : (b : Bool) → ltb (timeAt l low (m - 1) (place some)) u ≡ b → cond b (checked.Last (timeAt l low (m - 1) (place some))) checked.Wrong ≡ answer strict u n m ws
           by true e =
               let t = time-is some in
               right (ordered (λ _. subst⁻¹ (λ (x : ℕ). x < u) t (ltb-true (timeAt l low (m - 1) (place some)) u e))) (timeAt l low (m - 1) (place some))

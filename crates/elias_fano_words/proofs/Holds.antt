@@ -2,7 +2,7 @@
 -- Assumes nothing.
 use mathlib.Core.Path.{_≡_, refl, sym, ap, ap₂, _∙_, subst, subst⁻¹}
 use mathlib.Core.List.{List, [], _++_, append-nil}
-use mathlib.Core.Bool.{true}
+use mathlib.Core.Bool.{Bool, true, false}
 use mathlib.Core.Logic.{⊎-elim}
 use Prim.Native.Nat.{ℕ, suc, _+_, _-_, _*_, _/_, _%_, _^_, _≤_, _<_}
 use native.Mathlib.Nat.{le-trans, le-of-eq, lt-of-not-le, lt-of-lt-of-le, mul-one, mul-le-mul-right, div-add-mod', mod-lt, div-lt-iff-lt-mul, eq-or-lt-of-le}
@@ -13,7 +13,7 @@ use lib.Arith.{digits-div, digits-mod}
 use lib.ListN.{length, getD, take, drop, length-append}
 use lib.Seq.{take-at, drop-at}
 use Rattle.broadword.specs.Bits.{bit, count}
-use Rattle.broadword.specs.Fields.{digit}
+use Rattle.broadword.specs.Fields.{flag, digit}
 use Rattle.broadword.specs.Places.{select, orElse}
 use Rattle.broadword.specs.declared.Found.{Found}
 use Rattle.broadword.specs.declared.Found.the-variants.{At}
@@ -31,11 +31,11 @@ use Rattle.darray_positions.proofs.Index.{length-table, getD-table}
 use Rattle.darray_positions.proofs.Positions.{place-has, place-select, place-rises}
 use Rattle.elias_fano_words.specs.Sizes.{lowLen, highLen}
 use Rattle.elias_fano_words.specs.Image.{highFrom, lowNumber, highWords}
-use Rattle.elias_fano_words.specs.Times.{rising, bitWords, timeIn, timesIn, holds}
+use Rattle.elias_fano_words.specs.Times.{rising, unrepeatedIf, bitWords, timeIn, timesIn, holds, holdsIf}
 use Rattle.elias_fano_words.specs.Checks.{lowBits, InOrder}
 use Rattle.elias_fano_words.proofs.Ordering.{Ordered}
-use Rattle.elias_fano_words.proofs.Rising.{rising-lt, rising-le, rising-pairs}
-use Rattle.broadword.proofs.Truth.{and-true, true-and}
+use Rattle.elias_fano_words.proofs.Rising.{rising-lt, rising-pairs, steps-of, steps-table}
+use Rattle.broadword.proofs.Truth.{and-true, true-and, flag-le}
 use Rattle.elias_fano_words.proofs.Encode.{low-lt}
 use Rattle.elias_fano_words.proofs.Ones.{placeOf}
 use Rattle.elias_fano_words.proofs.Decode.{clear-number, low-number, low-words, select-high, count-high, clear-high, length-high, length-words, time-of, times-of}
@@ -43,15 +43,15 @@ use Rattle.elias_fano_words.proofs.Bitwise.{count-suc, count-one, same-
 
 -- ---- the words of times in order are in order
 
--- of two numbers with the same high bits the greater has the greater low bits
-low-le : (P a b : ℕ) → a ≤ b → a / P ≡ b / P → a % P ≤ b % P
-low-le P a b h e =
+-- of two numbers with the same high bits the greater has the greater low bits, by as much
+low-le : (P a b d : ℕ) → a + d ≤ b → a / P ≡ b / P → a % P + d ≤ b % P
+low-le P a b d h e =
     let x = div-add-mod' a P in
     let y = div-add-mod' b P in
     let q : a / P * P ≡ b / P * P = ap (λ (z : ℕ). z * P) e in
     omega arith
 
-module _ (u n : ℕ) (T : List ℕ) (r : rising u 0 T ≡ true) (few : length T ≤ n) (k : ℕ) (room : wordsFor (length T * lowLen u n) ≤ k) where
+module _ (strict : Bool) (u n : ℕ) (T : List ℕ) (r : rising u 0 T ≡ true) (apart : unrepeatedIf strict T ≡ true) (few : length T ≤ n) (k : ℕ) (room : wordsFor (length T * lowLen u n) ≤ k) where
   abbrev l : ℕ
   l = lowLen u n
 
@@ -77,18 +77,17 @@ module _ (u n : ℕ) (T : List ℕ) (r : rising u 0 T ≡ true) (few : length T 
       let b = select-at f (highLen u n) (count f i) i (within i e) e refl in
       cc
 
-  in-order : InOrder l (highWords u n T) lows
+  in-order : InOrder strict l (highWords u n T) lows
   in-order i a b =
       let c : ℕ = count f i in
       let s : count f (suc i) ≡ suc c = (let q = count-suc f i in omega arith) in
       let m : suc c < length T = subst (λ (j : ℕ). j < length T) s (numbered (suc i) b) in
       let p : getD T c 0 / 2 ^ l + c ≡ i = placed i a in
       let q : getD T (suc c) 0 / 2 ^ l + suc c ≡ suc i = ap (placeOf l T) (sym s) ∙ placed (suc i) b in
-      let t : getD T c 0 ≤ getD T (suc c) 0 = rw (add-one c) at (rising-le u T c r (omega arith)) in
-      le-trans (le-of-eq (low-is c (numbered i a)))
-      (le-trans (low-le (2 ^ l) (getD T c 0) (getD T (suc c) 0) t (omega arith)) (le-of-eq (sym (low-is (suc c) m))))
+      let t = low-le (2 ^ l) (getD T c 0) (getD T (suc c) 0) (flag strict) (steps-of strict u T r apart c m) (omega arith) in
+      omega (arith, low-is c (numbered i a), low-is (suc c) m)
 
-  ordered-of : Ordered u n (length T) (highWords u n T) lows
+  ordered-of : Ordered strict u n (length T) (highWords u n T) lows
   ordered-of = record {
     high-clear = clear-high u n T r few;
     ones = count-high u n T r few;
@@ -114,15 +113,15 @@ low-bits-bit : (l : ℕ) (low : List ℕ) (k s : ℕ) → s < l → bit (lowBits
 low-bits-bit l low k s h =
     sym (bit-digit-1 (lowBits l low k) s) ∙ digit-word 1 (λ i. bitAt low (k * l + i)) l (λ i _. omega (arith, bitAt-le low (k * l + i))) s h
 
--- the numbers grow with their high bits, and where these are the same with their low bits
-grows : (P a b x y : ℕ) → x < P → a ≤ b → (a ≡ b → x ≤ y) → a * P + x ≤ b * P + y
-grows P a b x y hx h e =
+-- the numbers grow with their high bits, and where these are the same with their low bits, by d, at most 1
+grows : (P a b x y d : ℕ) → d ≤ 1 → x < P → a ≤ b → (a ≡ b → x + d ≤ y) → a * P + x + d ≤ b * P + y
+grows P a b x y d one hx h e =
     ⊎-elim
     (λ (q : a ≡ b). let s : a * P ≡ b * P = ap (λ (z : ℕ). z * P) q in let t = e q in omega arith)
     (λ (g : a < b). let s : suc a * P ≤ b * P = mul-le-mul-right P g in omega arith)
     (eq-or-lt-of-le h)
 
-module _ (u n m : ℕ) (high low : List ℕ) (few : m ≤ n) (o : Ordered u n m high low) where
+module _ (strict : Bool) (u n m : ℕ) (high low : List ℕ) (few : m ≤ n) (o : Ordered strict u n m high low) where
   abbrev w : ℕ
   w = lowLen u n
 
@@ -164,21 +163,24 @@ module _ (u n m : ℕ) (high low : List ℕ) (few : m ≤ n) (o : Ordered u n m 
   time-low : (k : ℕ) → k < m → time k % 2 ^ w ≡ lowBits w low k
   time-low k h = ap (λ (x : ℕ). x % 2 ^ w) (time-is k h) ∙ digits-mod (place k - k) (low-bits-lt w low k)
 
-  climbs : (k : ℕ) → suc k < m → time k ≤ time (suc k)
+  climbs : (k : ℕ) → suc k < m → time k + flag strict ≤ time (suc k)
   climbs k h =
       let a : k < m = omega arith in
       let p = place-rises ones (bitAt-le high) H k (suc k) (omega arith) (counted (suc k) h) in
       let x = place-ge k a in
       let y = place-ge (suc k) h in
-      le-trans (le-of-eq (time-is k a))
-      (le-trans (grows (2 ^ w) (place k - k) (place (suc k) - suc k) (lowBits w low k) (lowBits w low (suc k)) (low-bits-lt w low k) (omega arith) (λ e.
+      let g =
+      grows (2 ^ w) (place k - k) (place (suc k) - suc k) (lowBits w low k) (lowBits w low (suc k)) (flag strict) (flag-le strict) (low-bits-lt w low k) (omega arith) (λ e.
       let q : place (suc k) ≡ suc (place k) = omega arith in
-      subst (λ (c : ℕ). lowBits w low c ≤ lowBits w low (suc c)) (has k a .before)
-      (o .order (place k) (has k a .one) (ap ones (sym q) ∙ has (suc k) h .one))))
-      (le-of-eq (sym (time-is (suc k) h))))
+      subst (λ (c : ℕ). lowBits w low c + flag strict ≤ lowBits w low (suc c)) (has k a .before)
+      (o .order (place k) (has k a .one) (ap ones (sym q) ∙ has (suc k) h .one))) in
+      omega (arith, time-is k a, time-is (suc k) h)
 
   pub times-rise : rising u 0 times ≡ true
-  times-rise = rising-pairs u time m (λ k h. rw (add-one k) (climbs k (omega arith))) (o .below)
+  times-rise = rising-pairs u time m (λ k h. rw (add-one k) (let c = climbs k (omega arith) in let q : time k ≤ time (suc k) = omega arith in q)) (o .below)
+
+  apart-times : unrepeatedIf strict times ≡ true
+  apart-times = steps-table strict time m climbs
 
   length-times : length times ≡ m
   length-times = length-table time m
@@ -271,32 +273,34 @@ module _ (u n m : ℕ) (high low : List ℕ) (size : length high ≡ wordsFor (h
       let s = and-true (rising u 0 T) (same ws W) h in
       (s .0, same-true ws W (s .1) ∙ ap (λ (k : ℕ). bitWords u n k T) rest-is)
 
-  module _ (few : m ≤ n) (room : wordsFor (m * lowLen u n) ≤ length low) where
-    pub of-holds : holds u n m ws ≡ true → Ordered u n m high low
+  module _ (few : m ≤ n) (room : wordsFor (m * lowLen u n) ≤ length low) (strict : Bool) where
+    pub of-holds : holdsIf u n strict m ws ≡ true → Ordered strict u n m high low
     unfolding bitWords
-    of-holds h =
+    of-holds a =
         let T : List ℕ = timesIn u n m ws in
-        let r = fit-held h .0 in
-        let e = fit-held h .1 in
+        let both = and-true (unrepeatedIf strict T) (holds u n m ws) a in
+        let r = fit-held (both .1) .0 in
+        let e = fit-held (both .1) .1 in
         let k : length T ≤ n = le-trans (le-of-eq length-held) few in
         let W : ℕ = wordsFor (highLen u n) in
         let L : List ℕ = numberWords (length low) (lowNumber (lowLen u n) T) in
-        let a : high ≡ highWords u n T = sym (take-at high low W size) ∙ ap (take W) e ∙ take-at (highWords u n T) L W (length-high u n T) in
+        let c : high ≡ highWords u n T = sym (take-at high low W size) ∙ ap (take W) e ∙ take-at (highWords u n T) L W (length-high u n T) in
         let b : low ≡ L = sym (drop-at high low W size) ∙ ap (drop W) e ∙ drop-at (highWords u n T) L W (length-high u n T) in
-        let q : Ordered u n (length T) (highWords u n T) L =
-        ordered-of u n T r k (length low) (subst⁻¹ (λ (j : ℕ). wordsFor (j * lowLen u n) ≤ length low) length-held room) in
-        subst (λ (j : ℕ). Ordered u n j high low) length-held
-        (subst⁻¹ (λ (A : List ℕ). Ordered u n (length T) A low) a (subst⁻¹ (Ordered u n (length T) (highWords u n T)) b q))
+        let q : Ordered strict u n (length T) (highWords u n T) L =
+        ordered-of strict u n T r (both .0) k (length low) (subst⁻¹ (λ (j : ℕ). wordsFor (j * lowLen u n) ≤ length low) length-held room) in
+        subst (λ (j : ℕ). Ordered strict u n j high low) length-held
+        (subst⁻¹ (λ (A : List ℕ). Ordered strict u n (length T) A low) c (subst⁻¹ (Ordered strict u n (length T) (highWords u n T)) b q))
 
-    pub holds-of : Fit ws → Ordered u n m high low → holds u n m ws ≡ true
+    pub holds-of : Fit ws → Ordered strict u n m high low → holdsIf u n strict m ws ≡ true
     unfolding holds bitWords
     holds-of fit o =
         let T : List ℕ = table (timeIn u n high low) m in
         let e : ws ≡ bitWords u n (length low) T =
-        ap₂ (λ (a b : List ℕ). a ++ b) (high-same u n m high low few o (fit-left high low fit) size) (low-same u n m high low few o (fit-right high low fit) room) in
-        true-and (rising u 0 (timesIn u n m ws)) (same ws (bitWords u n (length ws - wordsFor (highLen u n)) (timesIn u n m ws)))
-        (ap (rising u 0) times-are ∙ times-rise u n m high low few o)
-        (ap₂ (λ (k : ℕ) (S : List ℕ). same ws (bitWords u n k S)) rest-is times-are ∙ ap (same ws) (sym e) ∙ same-refl ws)
+        ap₂ (λ (a b : List ℕ). a ++ b) (high-same strict u n m high low few o (fit-left high low fit) size) (low-same strict u n m high low few o (fit-right high low fit) room) in
+        true-and (unrepeatedIf strict (timesIn u n m ws)) (holds u n m ws) (ap (unrepeatedIf strict) times-are ∙ apart-times strict u n m high low few o)
+        (true-and (rising u 0 (timesIn u n m ws)) (same ws (bitWords u n (length ws - wordsFor (highLen u n)) (timesIn u n m ws)))
+        (ap (rising u 0) times-are ∙ times-rise strict u n m high low few o)
+        (ap₂ (λ (k : ℕ) (S : List ℕ). same ws (bitWords u n k S)) rest-is times-are ∙ ap (same ws) (sym e) ∙ same-refl ws))
 
 -- the words of times in order pass it
 pub holds-words : (u n : ℕ) (T : List ℕ) → rising u 0 T ≡ true → length T ≤ n → (k : ℕ) → wordsFor (length T * lowLen u n) ≤ k → holds u n (length T) (bitWords u n k T) ≡ true

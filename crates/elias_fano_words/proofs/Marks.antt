@@ -4,7 +4,7 @@ use mathlib.Core.List.{List}
 use mathlib.Core.Bool.{Bool, true, false, not}
 use mathlib.Core.Logic.{_⊎_, inl, inr, ⊎-elim}
 use Prim.Native.Nat.{ℕ, zero, suc, _+_, _-_, _*_, _/_, _%_, _^_, _≤_, _<_}
-use native.Mathlib.Nat.{pos-of-ne-zero, lt-of-not-le, lt-of-le-of-lt, mul-div-cancel, mul-le-mul-left, mul-one, le-trans, le-of-eq, le-of-lt, not-le-of-lt}
+use native.Mathlib.Nat.{pos-of-ne-zero, lt-of-not-le, mul-div-cancel, le-of-lt, not-le-of-lt}
 use native.Mathlib.Decide.{decLt, ℕ-discrete}
 use native.Mathlib.Omega.{arith}
 use borrow.Author.Tests.{leb-true, leb-false, not-true, not-false}
@@ -12,6 +12,7 @@ use lib.Bits.{bitAnd, and-mask}
 use lib.Dec.{leb}
 use lib.Pow.{pow-pos}
 use Rattle.broadword.specs.Bits.{bit, ones}
+use Rattle.broadword.specs.Fields.{flag}
 use Rattle.broadword.proofs.Count.{bit-half, bit-low, bit-shift}
 use Rattle.broadword.proofs.Lowest.{odd-times, pow-le, short, bit-one, bit-below, lowest-one}
 use Rattle.bit_words.proofs.Runs.{bit-under}
@@ -120,7 +121,7 @@ module _ (x : ℕ) (some : x ≡ 0 → ⊥) (fits : x < 2 ^ 64) where
 
   -- ---- the low bits at the lowest mark of a word w, with `before` ones before the word; c of its own stand below the mark
 
-  module _ (low : List ℕ) (l w before c : ℕ) (e : c ≡ ones (bitAnd w (lowest x - 1)) 64) where
+  module _ (strict : Bool) (low : List ℕ) (l w before c : ℕ) (e : c ≡ ones (bitAnd w (lowest x - 1)) 64) where
     below : c ≡ ones w t
     below = e ∙ ap (λ (y : ℕ). ones (bitAnd w (y - 1)) 64) (marked .1 .is) ∙ ap (λ (y : ℕ). ones y 64) (and-mask w t) ∙ ones-low w t (le-of-lt (marked .1 .within))
 
@@ -130,18 +131,14 @@ module _ (x : ℕ) (some : x ≡ 0 → ⊥) (fits : x < 2 ^ 64) where
     pub mark-held : Each x (λ j. Held l low (before + ones w j + 2)) → Held l low (before + c + 2)
     mark-held a = subst (λ (y : ℕ). Held l low (y + 2)) number (a t (marked .1 .one))
 
-    module _ (r : Bool) (is : r ≡ leb (lowBits l low (before + c)) (lowBits l low (suc (before + c)))) where
-      pub mark-falls : not r ≡ true → Each x (λ j. Rises l low (before + ones w j)) → ⊥
+    module _ (r : Bool) (is : r ≡ leb (lowBits l low (before + c) + flag strict) (lowBits l low (suc (before + c)))) where
+      pub mark-falls : not r ≡ true → Each x (λ j. Rises strict l low (before + ones w j)) → ⊥
       mark-falls f a =
-          not-le-of-lt (leb-false (lowBits l low (before + c)) (lowBits l low (suc (before + c))) (sym is ∙ not-true r f))
-          (subst (λ (y : ℕ). Rises l low y) number (a t (marked .1 .one)))
+          not-le-of-lt (leb-false (lowBits l low (before + c) + flag strict) (lowBits l low (suc (before + c))) (sym is ∙ not-true r f))
+          (subst (λ (y : ℕ). Rises strict l low y) number (a t (marked .1 .one)))
 
-      pub mark-rises : not r ≡ false → Each (x - lowest x) (λ j. Rises l low (before + ones w j)) → Each x (λ j. Rises l low (before + ones w j))
-      mark-rises f = each-all (λ j. Rises l low (before + ones w j)) (subst (λ (y : ℕ). Rises l low y) (sym number) (leb-true (lowBits l low (before + c)) (lowBits l low (suc (before + c))) (sym is ∙ not-false r f)))
-
--- a number of times whose low bits are held fits a word
-pub held-fits : (l : ℕ) (low : List ℕ) (k : ℕ) → 0 < l → Held l low k → k < 2 ^ 64
-held-fits l low k h d = lt-of-le-of-lt (le-trans (le-of-eq (sym (mul-one k))) (mul-le-mul-left k h)) (d .few)
+      pub mark-rises : not r ≡ false → Each (x - lowest x) (λ j. Rises strict l low (before + ones w j)) → Each x (λ j. Rises strict l low (before + ones w j))
+      mark-rises f = each-all (λ j. Rises strict l low (before + ones w j)) (subst (λ (y : ℕ). Rises strict l low y) (sym number) (leb-true (lowBits l low (before + c) + flag strict) (lowBits l low (suc (before + c))) (sym is ∙ not-false r f)))
 
 -- 0 has no mark
 pub no-mark : (x j : ℕ) → x ≡ 0 → bit x j ≡ 1 → ⊥

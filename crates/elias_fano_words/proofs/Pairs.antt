@@ -1,6 +1,7 @@
 -- The neighbouring ones of words, as marks of a word: a place is marked if it and the next are ones. Assumes nothing.
 use mathlib.Core.Path.{_≡_, sym, ap, ap₂, _∙_, subst}
 use mathlib.Core.List.{List}
+use mathlib.Core.Bool.{Bool, false}
 use Prim.Native.Nat.{ℕ, suc, _+_, _-_, _*_, _/_, _%_, _^_, _≤_, _<_}
 use native.Mathlib.Nat.{le-refl, le-trans, lt-of-not-le, lt-of-le-of-lt, lt-of-lt-of-le, mul-le-mul-right, le-of-lt}
 use native.Mathlib.Decide.{decLt}
@@ -9,7 +10,7 @@ use lib.Bits.{bitAnd, bitOr, and-shr, and-mod, and-self, and-le-l, and-le-r}
 use lib.ListN.{length, getD}
 use lib.Pow.{pow-mono}
 use Rattle.broadword.specs.Bits.{bit, count, ones}
-use Rattle.broadword.specs.Fields.{word}
+use Rattle.broadword.specs.Fields.{flag, word}
 use Rattle.broadword.proofs.Count.{bit-le, bit-mod, bit-shift, bit-above, count-mono}
 use Rattle.bit_words.specs.Vector.{bitAt}
 use Rattle.bit_words.proofs.Runs.{Fit, bitAt-word, count-word, count-next}
@@ -78,13 +79,13 @@ module _ (ws : List ℕ) (fit : Fit ws) (i : ℕ) where
 -- ---- the order, word by word
 
 -- the low bits rise at the neighbours whose first stands below p
-abbrev pub Risen : ℕ → List ℕ → List ℕ → ℕ → Type 0
-Risen l high low p = (i : ℕ) → i < p → bitAt high i ≡ 1 → bitAt high (suc i) ≡ 1 → Rises l low (count (bitAt high) i)
+abbrev pub Risen : Bool → ℕ → List ℕ → List ℕ → ℕ → Type 0
+Risen strict l high low p = (i : ℕ) → i < p → bitAt high i ≡ 1 → bitAt high (suc i) ≡ 1 → Rises strict l low (count (bitAt high) i)
 
 held-le : (l : ℕ) (low : List ℕ) (j k : ℕ) → j ≤ k → Held l low k → Held l low j
-held-le l low j k h d = let m = mul-le-mul-right l h in record { room = le-trans m (d .room); few = lt-of-le-of-lt m (d .few) }
+held-le l low j k h d = let m = mul-le-mul-right l h in record { number = lt-of-le-of-lt h (d .number); room = le-trans m (d .room); few = lt-of-le-of-lt m (d .few) }
 
-module _ (l : ℕ) (high low : List ℕ) (fit : Fit high) (i before v : ℕ) (e : before ≡ count (bitAt high) (i * 64)) (is : v ≡ getD high (i + 1) 0) where
+module _ (strict : Bool) (l : ℕ) (high low : List ℕ) (fit : Fit high) (i before v : ℕ) (e : before ≡ count (bitAt high) (i * 64)) (is : v ≡ getD high (i + 1) 0) where
   abbrev f : ℕ → ℕ
   f = bitAt high
 
@@ -118,39 +119,39 @@ module _ (l : ℕ) (high low : List ℕ) (fit : Fit high) (i before v : ℕ) (e 
           by (no g) = let z = bit-past high k (omega (arith, lt-of-not-le g)) in absurd (omega arith)
 
   -- in order, those of the word rise
-  pub word-risen : InOrder l high low → Each marks (λ j. Rises l low (before + ones (getD high i 0) j))
+  pub word-risen : InOrder strict l high low → Each marks (λ j. Rises strict l low (before + ones (getD high i 0) j))
   word-risen o j b =
       let m = sym (same-marks j) ∙ b in
       let p = mark-pair high fit i j m in
-      subst (λ (k : ℕ). Rises l low k) (at j (mark-lt high fit i j m)) (o (i * 64 + j) (p .0) (p .1))
+      subst (λ (k : ℕ). Rises strict l low k) (at j (mark-lt high fit i j m)) (o (i * 64 + j) (p .0) (p .1))
 
   -- and they and those before them are those before the next word
-  pub risen-more : Risen l high low (i * 64) → Each marks (λ j. Rises l low (before + ones (getD high i 0) j)) → Risen l high low ((i + 1) * 64)
+  pub risen-more : Risen strict l high low (i * 64) → Each marks (λ j. Rises strict l low (before + ones (getD high i 0) j)) → Risen strict l high low ((i + 1) * 64)
   risen-more r a k h p q = by (decLt k (i * 64))
     where
-      by : Dec (k < i * 64) → Rises l low (count f k)
+      by : Dec (k < i * 64) → Rises strict l low (count f k)
       by (yes g) = r k g p q
       by (no g) =
           let j : ℕ = k - i * 64 in
           let s : i * 64 + j ≡ k = omega (arith, lt-of-not-le g) in
           let m : j < 64 = omega arith in
-          subst (λ (n : ℕ). Rises l low (count f n)) s
-          (subst (λ (n : ℕ). Rises l low n) (sym (at j m)) (a j (same-marks j ∙ pair-mark high fit i j m (ap f s ∙ p) (ap (λ (n : ℕ). f (suc n)) s ∙ q))))
+          subst (λ (n : ℕ). Rises strict l low (count f n)) s
+          (subst (λ (n : ℕ). Rises strict l low n) (sym (at j m)) (a j (same-marks j ∙ pair-mark high fit i j m (ap f s ∙ p) (ap (λ (n : ℕ). f (suc n)) s ∙ q))))
 
   -- the ones up to the next word
   pub count-on : (c : ℕ) → c ≡ ones (getD high i 0) 64 → before + c ≡ count f ((i + 1) * 64)
   count-on c g = ap₂ (λ (a b : ℕ). a + b) e g ∙ sym (count-next f (λ i. getD high i 0) (bitAt-word high) i)
 
-module _ (l : ℕ) (high low : List ℕ) where
+module _ (strict : Bool) (l : ℕ) (high low : List ℕ) where
   -- at the end
-  pub risen-all : Risen l high low (length high * 64) → InOrder l high low
+  pub risen-all : Risen strict l high low (length high * 64) → InOrder strict l high low
   risen-all r k p q = by (decLt k (length high * 64))
     where
-      by : Dec (k < length high * 64) → Rises l low (count (bitAt high) k)
+      by : Dec (k < length high * 64) → Rises strict l low (count (bitAt high) k)
       by (yes h) = r k h p q
       by (no g) = let z = bit-past high k (omega (arith, lt-of-not-le g)) in absurd (omega arith)
 
   -- no low bits
-  pub risen-none : l ≡ 0 → InOrder l high low
+  pub risen-none : strict ≡ false → l ≡ 0 → InOrder strict l high low
   unfolding word
-  risen-none z k p q = subst (λ (n : ℕ). Rises n low (count (bitAt high) k)) (sym z) (le-refl 0)
+  risen-none e z k p q = subst (λ (n : ℕ). Rises strict n low (count (bitAt high) k)) (sym z) (subst (λ (b : Bool). 0 + flag b ≤ 0) (sym e) (le-refl 0))

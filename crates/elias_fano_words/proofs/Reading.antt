@@ -1,19 +1,21 @@
 -- The bits from a place on, read from its word and the one after it. Assumes nothing.
-use mathlib.Core.Path.{_≡_, sym, ap, ap₂, _∙_, subst⁻¹}
+use mathlib.Core.Path.{_≡_, refl, sym, ap, ap₂, _∙_, subst⁻¹}
 use mathlib.Core.List.{List}
+use mathlib.Core.Bool.{Bool, true, false, not}
 use Prim.Native.Nat.{ℕ, suc, _+_, _-_, _*_, _/_, _%_, _^_, _≤_, _<_}
-use native.Mathlib.Nat.{le-dest, lt-of-not-le, suc-mul}
+use native.Mathlib.Nat.{le-dest, lt-of-not-le, suc-mul, mod-lt}
 use native.Mathlib.Decide.{decLt}
 use native.Mathlib.Omega.{arith}
 use lib.Arith.{digits-mod}
 use lib.Bits.{bitAnd, bitOr, and-mask}
 use lib.Dec.{leb}
 use lib.ListN.{length, getD}
-use lib.Pow.{pow-pos, mod-mod-pow}
+use lib.Pow.{pow-pos, pow-mono, mod-mod-pow}
 use Rattle.broadword.specs.Bits.{bit}
-use Rattle.broadword.specs.Fields.{word}
+use Rattle.broadword.specs.Fields.{flag, word}
 use Rattle.broadword.proofs.Count.{bit-mod}
 use Rattle.broadword.proofs.Fields.{word-same}
+use Rattle.broadword.proofs.Truth.{flag-le}
 use Rattle.bit_words.specs.Vector.{bitAt}
 use Rattle.bit_words.proofs.Runs.{Fit, bitAt-le, bitAt-word}
 use Rattle.bit_words.proofs.Windows.{number-bit, number-bits, two-words, two-shifts, window-or}
@@ -99,8 +101,25 @@ module _ (low : List ℕ) (l k : ℕ) (few : l < 64) (held : Held l low (k + 2))
       sym (bit-mod v (l + l) (l + i) (omega arith)) ∙ ap (λ (x : ℕ). bit x (l + i)) e
       ∙ number-bit f (l + l) (l + i) (λ j. bitAt-le low (k * l + j)) (omega arith) ∙ ap (bitAt low) (q ∙ next-at i))
 
-  pub rises-one : (v : ℕ) → l ≤ 32 → From low (k * l) v → leb (bitAnd v (mask l)) (bitAnd (v / 2 ^ l) (mask l)) ≡ leb (lowBits l low k) (lowBits l low (suc k))
-  rises-one v s h = ap₂ leb (first-low v h) (second-low v s h)
+  -- no low bits
+  pub rises-none : (b : Bool) → l ≡ 0 → not b ≡ leb (lowBits l low k + flag b) (lowBits l low (suc k))
+  rises-none b z = by b ∙ sym (ap₂ (λ (x y : ℕ). leb (x + flag b) y) (low-none low l (k * l) z) (low-none low l (suc k * l) z))
+    where
+      by : (b : Bool) → not b ≡ leb (0 + flag b) 0
+      by true = refl
+      by false = refl
 
-  pub rises-two : (v x : ℕ) → From low (k * l) v → From low (k * l + l) x → leb (bitAnd v (mask l)) (bitAnd x (mask l)) ≡ leb (lowBits l low k) (lowBits l low (suc k))
-  rises-two v x h g = ap₂ leb (first-low v h) (next-low x g)
+  -- 1 more fits a word
+  pub more-fits : (v : ℕ) (b : Bool) → bitAnd v (mask l) + flag b < 2 ^ 64
+  more-fits v b =
+      let e = masked l v few in
+      let m = mod-lt v (pow-pos l) in
+      let p : 2 ^ l ≤ 2 ^ 63 = pow-mono (let q : l ≤ 63 = omega arith in q) in
+      omega (arith, flag-le b)
+
+  -- compared with d more
+  pub rises-one : (d v : ℕ) → l ≤ 32 → From low (k * l) v → leb (bitAnd v (mask l) + d) (bitAnd (v / 2 ^ l) (mask l)) ≡ leb (lowBits l low k + d) (lowBits l low (suc k))
+  rises-one d v s h = ap₂ (λ (a b : ℕ). leb (a + d) b) (first-low v h) (second-low v s h)
+
+  pub rises-two : (d v x : ℕ) → From low (k * l) v → From low (k * l + l) x → leb (bitAnd v (mask l) + d) (bitAnd x (mask l)) ≡ leb (lowBits l low k + d) (lowBits l low (suc k))
+  rises-two d v x h g = ap₂ (λ (a b : ℕ). leb (a + d) b) (first-low v h) (next-low x g)

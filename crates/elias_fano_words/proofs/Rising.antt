@@ -1,7 +1,7 @@
 -- Times in order: how a list of them grows by one, what each of them has, and a table of them. Assumes nothing.
 use mathlib.Core.Path.{_≡_, refl, sym, ap, _∙_, subst}
 use mathlib.Core.List.{List, [], _∷_, _++_, append-assoc, append-nil}
-use mathlib.Core.Bool.{true, _&&_}
+use mathlib.Core.Bool.{Bool, true, false, _&&_}
 use Prim.Native.Nat.{ℕ, zero, suc, _+_, _-_, _≤_, _<_, zero-le, suc-le-suc}
 use native.Mathlib.Nat.{le-refl, le-trans, lt-of-le-of-lt, le-of-suc-le-suc, not-suc-le-zero, add-zero, zero-lt-suc}
 use native.Mathlib.Numerals.{add-one}
@@ -9,12 +9,11 @@ use native.Mathlib.Omega.{arith}
 use borrow.Author.Tests.{leb-true, ltb-true, le-leb, lt-ltb}
 use lib.Dec.{leb, ltb}
 use lib.ListN.{length, getD}
+use Rattle.broadword.specs.Fields.{flag}
 use Rattle.darray_positions.specs.Index.{table}
 use Rattle.darray_positions.proofs.Index.{length-table, getD-table}
-use Rattle.elias_fano_words.specs.Times.{rising, lastFrom, lastOf}
+use Rattle.elias_fano_words.specs.Times.{rising, unrepeated, unrepeatedIf, lastFrom, lastOf}
 use Rattle.broadword.proofs.Truth.{and-true, true-and}
-
--- ---- a test of two parts
 
 -- ---- the first time, and the rest
 
@@ -85,6 +84,20 @@ module _ (u : ℕ) where
   pub rising-le : (T : List ℕ) (k : ℕ) → rising u 0 T ≡ true → k + 1 < length T → getD T k 0 ≤ getD T (k + 1) 0
   rising-le T k e h = rw (add-one k) (each-le 0 T k e (omega arith))
 
+-- ---- each step
+
+below-next : (T : List ℕ) (k : ℕ) → unrepeated T ≡ true → suc k < length T → getD T k 0 < getD T (suc k) 0
+unfolding unrepeated
+below-next [] k e h = absurd (not-suc-le-zero h)
+below-next (t ∷ []) k e h = absurd (not-suc-le-zero (le-of-suc-le-suc h))
+below-next (t ∷ s ∷ T) zero e h = ltb-true t s (and-true (ltb t s) (unrepeated (s ∷ T)) e .0)
+below-next (t ∷ s ∷ T) (suc k) e h = below-next (s ∷ T) k (and-true (ltb t s) (unrepeated (s ∷ T)) e .1) (le-of-suc-le-suc h)
+
+-- by how much the next time is greater at least
+pub steps-of : (s : Bool) (u : ℕ) (T : List ℕ) → rising u 0 T ≡ true → unrepeatedIf s T ≡ true → (k : ℕ) → suc k < length T → getD T k 0 + flag s ≤ getD T (suc k) 0
+steps-of true u T r e k h = omega (arith, below-next T k e h)
+steps-of false u T r e k h = omega (arith, each-le u 0 T k r h)
+
 last-getD : (x : ℕ) (T : List ℕ) (n : ℕ) → length T ≡ suc n → lastFrom x T ≡ getD T n 0
 last-getD x [] n e = absurd (omega arith)
 last-getD x (t ∷ []) zero e = refl
@@ -121,3 +134,16 @@ rising-pairs u f m h l =
     from-each u 0 f m (λ _. zero-le) (λ k g. rw (add-one k) at (h k (omega arith))) (λ k g.
     let d : k + (m - 1 - k) ≡ m - 1 = omega arith in
     lt-of-le-of-lt (steps f m h k (m - 1 - k) (omega arith)) (subst (λ (i : ℕ). f i < u) (sym d) (l (omega arith))))
+
+-- none is repeated where each is below the next
+all-below : (f : ℕ → ℕ) (m : ℕ) → ((k : ℕ) → suc k < m → f k < f (suc k)) → unrepeated (table f m) ≡ true
+unfolding table unrepeated
+all-below f zero h = refl
+all-below f (suc zero) h = refl
+all-below f (suc (suc m)) h =
+    true-and (ltb (f 0) (f 1)) (unrepeated (table (λ i. f (suc i)) (suc m))) (lt-ltb (f 0) (f 1) (h 0 (suc-le-suc (zero-lt-suc m))))
+    (all-below (λ i. f (suc i)) (suc m) (λ k g. h (suc k) (suc-le-suc g)))
+
+pub steps-table : (s : Bool) (f : ℕ → ℕ) (m : ℕ) → ((k : ℕ) → suc k < m → f k + flag s ≤ f (suc k)) → unrepeatedIf s (table f m) ≡ true
+steps-table true f m h = all-below f m (λ k g. omega (arith, h k g))
+steps-table false f m h = refl

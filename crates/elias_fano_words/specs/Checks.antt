@@ -1,10 +1,11 @@
 -- What the functions inside the crate demand and find: no public contract rests on it. Assumes nothing.
 use mathlib.Core.Path.{_≡_}
 use mathlib.Core.List.{List}
+use mathlib.Core.Bool.{Bool}
 use Prim.Native.Nat.{ℕ, suc, _+_, _-_, _*_, _^_, _≤_, _<_}
 use lib.ListN.{length}
 use Rattle.broadword.specs.Bits.{bit, count}
-use Rattle.broadword.specs.Fields.{word}
+use Rattle.broadword.specs.Fields.{flag, word}
 use Rattle.bit_words.specs.Vector.{bitAt, wordsFor}
 use Rattle.elias_fano_words.specs.Sizes.{lowLen, highLen}
 
@@ -12,10 +13,13 @@ use Rattle.elias_fano_words.specs.Sizes.{lowLen, highLen}
 abbrev pub lowBits : ℕ → List ℕ → ℕ → ℕ
 lowBits l low k = word 1 (λ i. bitAt low (k * l + i)) l
 
--- the low bits of neighbouring ones, whose times have the same high bits, do not fall
-abbrev pub InOrder : ℕ → List ℕ → List ℕ → Type 0
-InOrder l high low =
-    (i : ℕ) → bitAt high i ≡ 1 → bitAt high (suc i) ≡ 1 → lowBits l low (count (bitAt high) i) ≤ lowBits l low (suc (count (bitAt high) i))
+-- the low bits with the number k do not exceed the next, and with `strict` are below them
+abbrev pub Rises : Bool → ℕ → List ℕ → ℕ → Type 0
+Rises strict l low k = lowBits l low k + flag strict ≤ lowBits l low (suc k)
+
+-- so the low bits of neighbouring ones, whose times have the same high bits
+abbrev pub InOrder : Bool → ℕ → List ℕ → List ℕ → Type 0
+InOrder strict l high low = (i : ℕ) → bitAt high i ≡ 1 → bitAt high (suc i) ≡ 1 → Rises strict l low (count (bitAt high) i)
 
 -- no bit is set from the place p on
 abbrev pub Clear : List ℕ → ℕ → Type 0
@@ -23,12 +27,9 @@ Clear ws p = (i : ℕ) → p ≤ i → bitAt ws i ≡ 0
 
 -- some words have the low bits of k times
 pub record Held (l : ℕ) (low : List ℕ) (k : ℕ) : Type 0 where
+  pub number : k < 2 ^ 64
   pub room : k * l ≤ length low * 64
   pub few : k * l < 2 ^ 64
-
--- the low bits with the number k do not exceed the next
-abbrev pub Rises : ℕ → List ℕ → ℕ → Type 0
-Rises l low k = lowBits l low k ≤ lowBits l low (suc k)
 
 -- what holds of every place at which x is 1
 abbrev pub Each : ℕ → (ℕ → Type 0) → Type 0

@@ -1,7 +1,7 @@
 -- The times that high and low words hold, and whether some words hold nothing but times in order. u is the universe, n the declared
 -- count, m how many times there are, T the list of times. Assumes nothing.
 use mathlib.Core.List.{List, [], _∷_, _++_}
-use mathlib.Core.Bool.{Bool, true, _&&_}
+use mathlib.Core.Bool.{Bool, true, not, _&&_, _||_}
 use Prim.Native.Nat.{ℕ, _+_, _-_, _*_, _^_}
 use lib.Dec.{leb, ltb}
 use lib.ListN.{length, take, drop}
@@ -17,6 +17,16 @@ use Rattle.elias_fano_words.specs.Image.{highWords, lowNumber}
 unfoldable pub rising : ℕ → ℕ → List ℕ → Bool
 rising u x [] = true
 rising u x (t ∷ T) = leb x t && (ltb t u && rising u t T)
+
+-- each time is below the next: none is repeated (document 02)
+unfoldable pub unrepeated : List ℕ → Bool
+unrepeated [] = true
+unrepeated (t ∷ []) = true
+unrepeated (t ∷ s ∷ T) = ltb t s && unrepeated (s ∷ T)
+
+-- the same where it is asked for
+abbrev pub unrepeatedIf : Bool → List ℕ → Bool
+unrepeatedIf strict T = not strict || unrepeated T
 
 -- the last time, x where there is none
 abbrev pub lastFrom : ℕ → List ℕ → ℕ
@@ -44,3 +54,7 @@ module _ (u n : ℕ) where
   -- the words are bit for bit those of m times in order: "unused bits zero, hold [nothing] but m non-decreasing times below u"
   unfoldable pub holds : ℕ → List ℕ → Bool
   holds m ws = rising u 0 (timesIn m ws) && same ws (bitWords (length ws - wordsFor (highLen u n)) (timesIn m ws))
+
+  -- and none of them is repeated, where that is asked for
+  abbrev pub holdsIf : Bool → ℕ → List ℕ → Bool
+  holdsIf strict m ws = unrepeatedIf strict (timesIn m ws) && holds m ws

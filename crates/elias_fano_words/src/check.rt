@@ -1,18 +1,19 @@
 // Whether high words and low words hold nothing but times in order: what an image is opened by and a record finished with.
 //
 // Ones that are neighbours in the high words stand for times with the same high bits, and only of these the low bits are compared. So it takes
-// the time of counting the ones of the high words, and of a count of ones and one or two readings of low bits for each pair of neighbours.
+// the time of counting the ones of the high words, and of a count of ones and one or two readings of low bits for each pair of neighbours. With
+// `strict` the times are to rise at each step, and the low bits of neighbours with them.
 ghost use mathlib.Core.Path.{_≡_};
 ghost use mathlib.Core.Bool.{cond};
 ghost use Prim.Native.Nat.{ℕ, suc, _+_, _-_, _*_, _%_, _^_, _≤_, _<_};
 ghost use lib.Dec.{leb, ltb};
 ghost use lib.ListN.{length, getD};
 ghost use Rattle.broadword.specs.Bits.{count, ones};
-ghost use Rattle.broadword.specs.Fields.{word};
+ghost use Rattle.broadword.specs.Fields.{flag, word};
 ghost use Rattle.bit_words.specs.Vector.{bitAt};
 ghost use Rattle.darray.specs.Pending.{Decides};
 ghost use Rattle.elias_fano_words.specs.Checks.{Held, Rises, Each, LastOne, timeAt, Filled, Checkable, lowBits, Clear, InOrder};
-ghost use Rattle.elias_fano_words.specs.Times.{lastOf, timesIn, holds};
+ghost use Rattle.elias_fano_words.specs.Times.{lastOf, timesIn, holdsIf};
 use bit_words::WORD_LEN;
 use bit_words::last_used;
 use bit_words::rank_words;
@@ -72,30 +73,34 @@ pub fn low_at(low: &[u64], l: usize, k: usize) -> u64
     low_from(low, l, k * l)
 }
 
-// Whether the l low bits with the number k do not exceed the next ones. Up to 32 bits, one reading has both.
-fn rises(low: &[u64], l: usize, k: usize) -> bool
-    requires { ⌜ ((0 < l) × (l < 64) × Held l (now low) (k + 2)) ⌝ }
-    ensures { λ r. ⌜ r ≡ leb (lowBits l (now (low .entry)) k) (lowBits l (now (low .entry)) (suc k)) ⌝ }
+// Whether the l low bits with the number k do not exceed the next ones, and with `strict` are below them. Up to 32 bits, one reading has both.
+fn rises(low: &[u64], l: usize, k: usize, strict: bool) -> bool
+    requires { ⌜ ((l < 64) × Held l (now low) (k + 2)) ⌝ }
+    ensures { λ r. ⌜ r ≡ leb (lowBits l (now (low .entry)) k + flag strict) (lowBits l (now (low .entry)) (suc k)) ⌝ }
 {
+    if l == 0 {
+        return !strict;
+    }
     let mask = (1u64 << l) - 1;
     let pos = k * l;
     let bits = bits_at(low, pos);
+    let least = (bits & mask) + strict as u64;
     if l <= 32 {
-        return bits & mask <= (bits >> l) & mask;
+        return least <= (bits >> l) & mask;
     }
-    bits & mask <= bits_at(low, pos + l) & mask
+    least <= bits_at(low, pos + l) & mask
 }
 
-// Whether the low bits do not fall at any of the places of the word w that `marks` has, with `before` ones before the word. The lowest
-// mark is taken off at each turn.
-fn word_rises(low: &[u64], l: usize, w: u64, marks: u64, before: usize) -> bool
-    requires { ⌜ ((0 < l) × (l < 64) × Each marks (λ j. Held l (now low) (before + ones w j + 2))) ⌝ }
-    ensures { λ r. ⌜ Decides r (Each marks (λ j. Rises l (now (low .entry)) (before + ones w j))) ⌝ }
+// Whether the low bits rise so at each of the places of the word w that `marks` has, with `before` ones before the word. The lowest mark is
+// taken off at each turn.
+fn word_rises(low: &[u64], l: usize, w: u64, marks: u64, before: usize, strict: bool) -> bool
+    requires { ⌜ ((l < 64) × Each marks (λ j. Held l (now low) (before + ones w j + 2))) ⌝ }
+    ensures { λ r. ⌜ Decides r (Each marks (λ j. Rises strict l (now (low .entry)) (before + ones w j))) ⌝ }
 {
     let mut left = marks;
     while left != 0 {
         let lowest = left & (!left + 1);
-        if !rises(low, l, before + popcount(w & (lowest - 1))) {
+        if !rises(low, l, before + popcount(w & (lowest - 1)), strict) {
             return false;
         }
         left -= lowest;
@@ -112,12 +117,12 @@ fn next_word(words: &[u64], i: usize) -> u64
     if next < words.len() { words[next] } else { 0 }
 }
 
-// Whether the low bits of neighbouring ones of the high words do not fall. A place is marked if it and the next one are ones.
-fn in_order(high: &[u64], low: &[u64], l: usize) -> bool
+// Whether the low bits of neighbouring ones of the high words rise so. A place is marked if it and the next one are ones.
+fn in_order(high: &[u64], low: &[u64], l: usize, strict: bool) -> bool
     requires { ⌜ ((l < 64) × Held l (now low) (count (bitAt (now high)) (length (now high) * 64))) ⌝ }
-    ensures { λ r. ⌜ Decides r (InOrder l (now (high .entry)) (now (low .entry))) ⌝ }
+    ensures { λ r. ⌜ Decides r (InOrder strict l (now (high .entry)) (now (low .entry))) ⌝ }
 {
-    if l == 0 {
+    if l == 0 && !strict {
         return true;
     }
     let mut before: usize = 0;
@@ -125,7 +130,7 @@ fn in_order(high: &[u64], low: &[u64], l: usize) -> bool
     while i < high.len() {
         let w = high[i];
         let marks = w & ((w >> 1) | (next_word(high, i) << 63));
-        if !word_rises(low, l, w, marks, before) {
+        if !word_rises(low, l, w, marks, before, strict) {
             return false;
         }
         before += popcount(w);
@@ -165,8 +170,8 @@ fn last_time(high: &[u64], low: &[u64], universe: u64, l: usize, m: usize) -> Ch
     }
 }
 
-// The last of num_pushed times that the high words and the low words after them hold, if they hold nothing else. low_len and high_len
-// are those of the record.
+// The last of num_pushed times that the high words and the low words after them hold, if they hold nothing else and, with `strict`, none
+// twice. low_len and high_len are those of the record.
 pub fn check(
     words: &[u64],
     universe: u64,
@@ -174,9 +179,10 @@ pub fn check(
     num_pushed: u64,
     low_len: usize,
     high_len: usize,
+    strict: bool,
 ) -> Checked
     requires { ⌜ Checkable universe «num_vals» «num_pushed» «low_len» «high_len» (now words) ⌝ }
-    ensures { λ r. ⌜ r ≡ cond (holds universe «num_vals» «num_pushed» (now (words .entry))) (Checked.Last (lastOf (timesIn universe «num_vals» «num_pushed» (now (words .entry))))) Checked.Wrong ⌝ }
+    ensures { λ r. ⌜ r ≡ cond (holdsIf universe «num_vals» strict «num_pushed» (now (words .entry))) (Checked.Last (lastOf (timesIn universe «num_vals» «num_pushed» (now (words .entry))))) Checked.Wrong ⌝ }
 {
     let m = num_pushed as usize;
     let split = words_for(high_len);
@@ -191,7 +197,7 @@ pub fn check(
     if !clear_from(low, m * low_len) {
         return Checked::Wrong;
     }
-    if !in_order(high, low, low_len) {
+    if !in_order(high, low, low_len, strict) {
         return Checked::Wrong;
     }
     if m == 0 {

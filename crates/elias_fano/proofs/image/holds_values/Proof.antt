@@ -24,10 +24,10 @@ enum-told : tie.Need-enum-told
 enum-told c = search needs
 
 returns : tie.Need-returns
-returns c = let s = c .before .before .before .before .before .before in standing.held (s .args .image .now) (s .args .p) (s .pre .0) (s .pre .1) _ _ (c .before .before .before .check .ensures) _ (c .before .-last .given .1)
+returns c = let s = c .before .before .before .before .before .before in standing.held (s .args .image .now) (s .args .p) (s .pre .0) (s .pre .1) (s .args .strict) _ _ (c .before .before .before .check .ensures) _ (c .before .-last .given .1)
 
 returns-2 : tie.Need-returns-2
-returns-2 c = let s = c .before .before .before .before .before in standing.not-held (s .args .image .now) (s .args .p) (s .pre .0) (s .pre .1) _ _ (c .before .before .check .ensures) (c .enum-told .given .1)
+returns-2 c = let s = c .before .before .before .before .before in standing.not-held (s .args .image .now) (s .args .p) (s .pre .0) (s .pre .1) (s .args .strict) _ _ (c .before .before .check .ensures) (c .enum-told .given .1)
 
 pub holds-values-spec : {M : Type 1} → statement M
 holds-values-spec =

@@ -1,54 +1,16 @@
 -- `elias_fano::image::open` meets its contract.
 -- Assumes nothing.
 use borrow.Author.Needs.{needs}
-use borrow.Author.Tests.{not-true, not-false}
-use mathlib.Core.Path.{sym, _∙_}
-use Rattle.broadword.proofs.Truth.{true-false}
-use Rattle.elias_fano.proofs.Accepting.{accepts, found}
-use Rattle.elias_fano.proofs.Answers as answers
+use Rattle.elias_fano.specs.Accept.{openOf}
 use Rattle.elias_fano.proofs.image.open.Statement.{statement}
 use Rattle.elias_fano.proofs.image.open.Tie as tie
 
-read-header-requires : tie.Need-read-header-requires
-read-header-requires c κs = search needs
-
-enum-known-p : tie.Need-enum-known-p
-enum-known-p c = search needs
-
-enum-told : tie.Need-enum-told
-enum-told c = search needs
+open-if-requires : tie.Need-open-if-requires
+open-if-requires c κs = search needs
 
 returns : tie.Need-returns
-returns c = let s = c .before .before .before .before in answers.open-refused (s .args .image .now) (answers.heads-wrong (s .args .image .now) _ (c .before .before .read-header .ensures) (c .enum-told .given .1))
-
-holds-values-requires : tie.Need-holds-values-requires
-holds-values-requires c κs = answers.heads-parts (c .before .before .before .before .before .args .image .now) _ _ (c .before .before .before .read-header .ensures) (c .before .p .given .1)
-
-returns-2 : tie.Need-returns-2
-returns-2 c = let s = c .before .before .before .before .before .before .before in answers.open-refused (s .args .image .now) (λ a. true-false (sym (found (s .args .image .now) a .bits) ∙ sym (c .before .holds-values .ensures) ∙ not-true _ (c .if1 .taken)))
-
-has-indexes-requires : tie.Need-has-indexes-requires
-has-indexes-requires c κs = let h = answers.heads-parts (c .before .before .before .before .before .before .before .args .image .now) _ _ (c .before .before .before .before .before .read-header .ensures) (c .before .before .before .p .given .1) in (h .0, h .1, sym (c .before .holds-values .ensures) ∙ not-false _ (c .if1 .left))
-
-returns-3 : tie.Need-returns-3
-returns-3 c = let s = c .before .before .before .before .before .before .before .before .before in answers.open-refused (s .args .image .now) (λ a. c .before .has-indexes .ensures .no (not-true _ (c .if2 .taken)) (found (s .args .image .now) a .indexed))
-
-returns-4 : tie.Need-returns-4
-returns-4 c =
-    let s = c .before .before .before .before .before .before .before .before .before in
-    let h = answers.heads-parts (s .args .image .now) _ _ (c .before .before .before .before .before .before .before .read-header .ensures) (c .before .before .before .before .before .p .given .1) in
-    answers.open-image (s .args .image .now) _ (h .0) (accepts (s .args .image .now) (h .1) (sym (c .before .before .before .holds-values .ensures) ∙ not-false _ (c .before .before .if1 .left)) (c .before .has-indexes .ensures .yes (not-false _ (c .if2 .left))) (λ j. c .before .before .before .before .before .before .before .before .shared-slice-known .given j .fits))
+unfolding openOf
+returns c = c .open-if .ensures
 
 pub open-spec : {M : Type 1} → statement M
-open-spec =
-    tie.close
-    (tie.spec
-    read-header-requires
-    enum-known-p
-    enum-told
-    returns
-    holds-values-requires
-    returns-2
-    has-indexes-requires
-    returns-3
-    returns-4)
+open-spec = tie.close (tie.spec open-if-requires returns)

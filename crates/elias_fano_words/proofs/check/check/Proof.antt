@@ -11,7 +11,7 @@ words-for-requires : tie.Need-words-for-requires
 words-for-requires c κs = search needs
 
 -- the words and numbers, once it is known how many high words there are
-given : (c : tie.After-words-for) → decided.Given (c .before .before .args .universe) (c .before .before .args .num-vals) (c .before .before .args .num-pushed) (c .before .before .args .low-len) (c .before .before .args .high-len) (c .words-for .result) (c .before .before .args .words .now)
+given : (c : tie.After-words-for) → decided.Given (c .before .before .args .strict) (c .before .before .args .universe) (c .before .before .args .num-vals) (c .before .before .args .num-pushed) (c .before .before .args .low-len) (c .before .before .args .high-len) (c .words-for .result) (c .before .before .args .words .now)
 given c = record { fit = λ i. c .before .shared-slice-known .given i .fits; fits = c .before .before .fits .universe .fits; ok = c .before .before .pre; is = c .words-for .ensures }
 
 slice-aggregate-high : tie.Need-slice-aggregate-high

@@ -12,24 +12,24 @@ use Rattle.elias_fano_words.proofs.check.word_rises.Statement.{statemen
 use Rattle.elias_fano_words.proofs.check.word_rises.Tie as tie
 
 abbrev Inv-loop : tie.InvT-loop
-Inv-loop low l w marks before left₀ left =
+Inv-loop low l w marks before strict left₀ left =
     (left < 2 ^ 64)
-    × (Each marks (λ j. Rises l low (before + ones w j)) → Each left (λ j. Rises l low (before + ones w j)))
-    × (Each left (λ j. Rises l low (before + ones w j)) → Each marks (λ j. Rises l low (before + ones w j)))
+    × (Each marks (λ j. Rises strict l low (before + ones w j)) → Each left (λ j. Rises strict l low (before + ones w j)))
+    × (Each left (λ j. Rises strict l low (before + ones w j)) → Each marks (λ j. Rises strict l low (before + ones w j)))
     × Each left (λ j. Held l low (before + ones w j + 2))
 
 abbrev μ-loop : tie.MeasureT-loop
-μ-loop low l w marks before left₀ left = left
+μ-loop low l w marks before strict left₀ left = left
 
 -- the pair at the lowest mark is held
 held : (c : tie.After-popcount Inv-loop μ-loop) → Held (c .before .before .before .before .args .l) (c .before .before .before .before .args .low .now) (c .before .before .before .before .args .before + c .popcount .result + 2)
 held c =
     let s = c .before .before .before .before in
     let l = c .before .before .loop in
-    marks.mark-held (l .left) (c .before .loop-test .taken) (l .inv .0) (s .args .low .now) (s .args .l) (s .args .w) (s .args .before) (c .popcount .result) (c .popcount .ensures) (l .inv .3)
+    marks.mark-held (l .left) (c .before .loop-test .taken) (l .inv .0) (s .args .strict) (s .args .low .now) (s .args .l) (s .args .w) (s .args .before) (c .popcount .result) (c .popcount .ensures) (l .inv .3)
 
 loop-holds : tie.Need-loop-holds Inv-loop μ-loop
-loop-holds c = (c .before .fits .marks .fits, (λ a. a), (λ a. a), c .before .pre .2)
+loop-holds c = (c .before .fits .marks .fits, (λ a. a), (λ a. a), c .before .pre .1)
 
 add-lowest : tie.Need-add-lowest Inv-loop μ-loop
 add-lowest c = omega arith
@@ -43,16 +43,16 @@ popcount-requires c κs = search needs
 add-rises : tie.Need-add-rises Inv-loop μ-loop
 add-rises c =
     let s = c .before .before .before .before in
-    let h = held c in omega (arith, marks.held-fits (s .args .l) (s .args .low .now) (s .args .before + c .popcount .result + 2) (s .pre .0) h)
+    omega (arith, held c .number)
 
 rises-requires : tie.Need-rises-requires Inv-loop μ-loop
-rises-requires c κs = let s = c .before .before .before .before in (s .pre .0, s .pre .1, held c)
+rises-requires c κs = let s = c .before .before .before .before in (s .pre .0, held c)
 
 returns : tie.Need-returns Inv-loop μ-loop
 returns c =
     let s = c .before .before .before .before .before .before in
     let l = c .before .before .before .before .loop in
-    it-is-not (λ a. marks.mark-falls (l .left) (c .before .before .before .loop-test .taken) (l .inv .0) (s .args .low .now) (s .args .l) (s .args .w) (s .args .before) (c .before .before .popcount .result) (c .before .before .popcount .ensures) (c .before .rises .result) (c .before .rises .ensures) (c .if1 .taken) (l .inv .1 a))
+    it-is-not (λ a. marks.mark-falls (l .left) (c .before .before .before .loop-test .taken) (l .inv .0) (s .args .strict) (s .args .low .now) (s .args .l) (s .args .w) (s .args .before) (c .before .before .popcount .result) (c .before .before .popcount .ensures) (c .before .rises .result) (c .before .rises .ensures) (c .if1 .taken) (l .inv .1 a))
 
 sub-left : tie.Need-sub-left Inv-loop μ-loop
 sub-left c = marks.lowest-le (c .before .before .before .before .loop .left) (c .before .before .before .loop-test .taken) (c .before .before .before .before .loop .inv .0)
@@ -65,8 +65,8 @@ loop-again c =
     let s = c .before .before .before .before .before .before in
     let l = c .before .before .before .before .loop in (
       lt-of-le-of-lt (le-of-lt (marks.left-less (l .left) (c .before .before .before .loop-test .taken) (l .inv .0))) (l .inv .0),
-      (λ a. marks.each-left (l .left) (c .before .before .before .loop-test .taken) (l .inv .0) (λ j. Rises (s .args .l) (s .args .low .now) (s .args .before + ones (s .args .w) j)) (l .inv .1 a)),
-      (λ a. l .inv .2 (marks.mark-rises (l .left) (c .before .before .before .loop-test .taken) (l .inv .0) (s .args .low .now) (s .args .l) (s .args .w) (s .args .before) (c .before .before .popcount .result) (c .before .before .popcount .ensures) (c .before .rises .result) (c .before .rises .ensures) (c .if1 .left) a)),
+      (λ a. marks.each-left (l .left) (c .before .before .before .loop-test .taken) (l .inv .0) (λ j. Rises (s .args .strict) (s .args .l) (s .args .low .now) (s .args .before + ones (s .args .w) j)) (l .inv .1 a)),
+      (λ a. l .inv .2 (marks.mark-rises (l .left) (c .before .before .before .loop-test .taken) (l .inv .0) (s .args .strict) (s .args .low .now) (s .args .l) (s .args .w) (s .args .before) (c .before .before .popcount .result) (c .before .before .popcount .ensures) (c .before .rises .result) (c .before .rises .ensures) (c .if1 .left) a)),
       marks.each-left (l .left) (c .before .before .before .loop-test .taken) (l .inv .0) (λ j. Held (s .args .l) (s .args .low .now) (s .args .before + ones (s .args .w) j + 2)) (l .inv .3),
     )
 
