@@ -14,7 +14,7 @@ use Rattle.elias_fano.specs.Ask.{Question, ask, query}
 use Rattle.elias_fano.proofs.Answers.{value-inj, refused-value}
 use Rattle.elias_fano.proofs.Images.{image-query}
 use Rattle.elias_fano_from_bits.specs.Building.{Countable}
-use Rattle.elias_fano_from_bits.specs.FromBits.{onesOf, bitsImage, bitsTest, fromBitsOf, AsksBits}
+use Rattle.elias_fano_from_bits.specs.FromBits.{onesOf, bitsImage, onesTest, bitsTest, bitsWritten, fromBitsOf, AsksBits}
 use Rattle.elias_fano_from_bits.proofs.Ones as ones
 
 module _ (ws : List ℕ) (len : ℕ) (c : Bool) (w : List ℕ) (k : ℕ) (x : List ℕ) (small : len < 2 ^ 64) where
@@ -22,7 +22,7 @@ module _ (ws : List ℕ) (len : ℕ) (c : Bool) (w : List ℕ) (k : ℕ) (x : Li
   N = length (onesOf ws len)
 
   abbrev wrote : Outcome
-  wrote = leaves (value (length (bitsImage ws len c))) (bitsImage ws len c ++ drop (length (bitsImage ws len c)) w)
+  wrote = bitsWritten ws len c w
 
   -- the tests by their five questions
   abbrev test : Bool → Bool → Bool → Bool → Bool → Answer
@@ -49,6 +49,6 @@ module _ (ws : List ℕ) (len : ℕ) (c : Bool) (w : List ℕ) (k : ℕ) (x : Li
       asks (record { valid = ea; small = small; some = omega arith; most = ltb-false _ _ ee }) g
 
 pub asks-bits : AsksBits
-unfolding fromBitsOf bitsTest
+unfolding fromBitsOf bitsTest onesTest
 asks-bits ws len c w k x small e =
     by-tests ws len c w k x small (invalid ws len) (eqb len 0) (eqb (length (onesOf ws len)) 0) (ltb 16777216 (length (onesOf ws len))) (ltb (length w) (length (bitsImage ws len c))) refl refl refl e

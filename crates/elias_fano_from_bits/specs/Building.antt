@@ -18,7 +18,7 @@ use Rattle.elias_fano_words.specs.declared.sizes.Sizes.{Sizes}
 use Rattle.elias_fano.specs.Accept.{onesAt}
 use Rattle.elias_fano.specs.Finishing.{Planned, filedIn}
 use Rattle.elias_fano.specs.declared.finish.Plan.{Plan}
-use Rattle.elias_fano_from_bits.specs.FromBits.{onesOf, bitsImage, bitsTest}
+use Rattle.elias_fano_from_bits.specs.FromBits.{onesOf, bitsImage, onesTest}
 use Rattle.elias_fano_from_bits.specs.declared.measure.Mark.{Mark}
 use Rattle.elias_fano_from_bits.specs.declared.measure.HighPlace.{HighPlace}
 use Rattle.elias_fano_from_bits.specs.declared.build.Job.{Job}
@@ -32,6 +32,12 @@ pub record Countable (ws : List ℕ) (len : ℕ) : Type 0 where
   pub small : len < 2 ^ 64
   pub some : 0 < length (onesOf ws len)
   pub most : length (onesOf ws len) ≤ 16777216
+
+-- bits with n ones, and one at least
+pub record Counted (ws : List ℕ) (len n : ℕ) : Type 0 where
+  pub valid : invalid ws len ≡ false
+  pub number : n ≡ length (onesOf ws len)
+  pub some : 0 < n
 
 -- how many low bits of a place stand apart
 abbrev pub lowOf : List ℕ → ℕ → ℕ
@@ -113,4 +119,4 @@ pub record Ready (ws : List ℕ) (len : ℕ) (c : Bool) (k : ℕ) (j : Job) : Ty
 
 abbrev pub Tests : List ℕ → ℕ → Bool → ℕ → TestedBits → Type 0
 Tests ws len c k (tested.Passed j) = Ready ws len c k j
-Tests ws len c k (tested.Refused e) = bitsTest ws len c k ≡ refused (numberOf e)
+Tests ws len c k (tested.Refused e) = onesTest ws len c k ≡ refused (numberOf e)

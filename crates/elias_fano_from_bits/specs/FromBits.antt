@@ -19,21 +19,27 @@ onesOf ws len = positions true ws len
 unfoldable pub bitsImage : List ℕ → ℕ → Bool → List ℕ
 bitsImage ws len c = image len (length (onesOf ws len)) c (onesOf ws len)
 
--- 13, 10, 11, 2, 3, with k words lent
+-- 2, 3, with k words lent
+unfoldable pub onesTest : List ℕ → ℕ → Bool → ℕ → Answer
+onesTest ws len c k =
+    cond (ltb 16777216 (length (onesOf ws len))) (refused 2)
+    (cond (ltb k (length (bitsImage ws len c))) (refused 3)
+    done)
+
+-- 13, 10 and 11 come before these
 unfoldable pub bitsTest : List ℕ → ℕ → Bool → ℕ → Answer
 bitsTest ws len c k =
     cond (invalid ws len) (refused 13)
     (cond (eqb len 0) (refused 10)
     (cond (eqb (length (onesOf ws len)) 0) (refused 11)
-    (cond (ltb 16777216 (length (onesOf ws len))) (refused 2)
-    (cond (ltb k (length (bitsImage ws len c))) (refused 3)
-    done))))
+    (onesTest ws len c k)))
 
 -- the image stands at the front, and the later words stay
+abbrev pub bitsWritten : List ℕ → ℕ → Bool → List ℕ → Outcome
+bitsWritten ws len c w = leaves (value (length (bitsImage ws len c))) (bitsImage ws len c ++ drop (length (bitsImage ws len c)) w)
+
 unfoldable pub fromBitsOf : List ℕ → ℕ → Bool → List ℕ → Outcome
-fromBitsOf ws len c w =
-    passing (bitsTest ws len c (length w)) w
-    (leaves (value (length (bitsImage ws len c))) (bitsImage ws len c ++ drop (length (bitsImage ws len c)) w))
+fromBitsOf ws len c w = passing (bitsTest ws len c (length w)) w (bitsWritten ws len c w)
 
 -- every question of the first k words that an accepted call leaves is asked of the places of the ones
 abbrev pub AsksBits : Type 0

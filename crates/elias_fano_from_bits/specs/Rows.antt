@@ -13,7 +13,7 @@ use Rattle.darray_positions.specs.Index.{table, pos, blocks, size, wide, spill,
 use Rattle.darray_positions.specs.Positions.{places}
 use Rattle.elias_fano_words.specs.Image.{highFrom, lowNumber, highWords, lowWords, image}
 use Rattle.elias_fano_words.specs.Sizes.{lowLen, highLen}
-use Rattle.elias_fano_from_bits.specs.FromBits.{bitsImage, bitsTest, fromBitsOf}
+use Rattle.elias_fano_from_bits.specs.FromBits.{bitsImage, onesTest, bitsTest, fromBitsOf}
 
 -- what a call leaves by its definition, and what document 01 says
 pub record Row : Type 0 where
@@ -38,5 +38,5 @@ rows =
     ∷ []
 
 pub rows-right : map (λ (r : Row). r .left) rows ≡ map (λ (r : Row). r .says) rows
-unfolding rows bit count word last bitAt bitOver padding invalid numberWords table pos blocks size wide spill before entry lanes lane laneWord laneWords overflow indexWords places highFrom lowNumber highWords lowWords image lowLen highLen bitsImage bitsTest fromBitsOf
+unfolding rows bit count word last bitAt bitOver padding invalid numberWords table pos blocks size wide spill before entry lanes lane laneWord laneWords overflow indexWords places highFrom lowNumber highWords lowWords image lowLen highLen bitsImage onesTest bitsTest fromBitsOf
 rows-right = refl

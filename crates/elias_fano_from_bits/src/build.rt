@@ -6,7 +6,7 @@ ghost use mathlib.Core.Path.{_≡_};
 ghost use mathlib.Core.List.{_++_};
 ghost use Prim.Native.Nat.{_<_};
 ghost use lib.ListN.{length, drop};
-ghost use Rattle.errors.specs.Answer.{leaves};
+ghost use Rattle.errors.specs.Answer.{leaves, passing};
 ghost use Rattle.broadword.specs.Places.{SelectInByte, Debruijn64};
 ghost use Rattle.darray.specs.Sizes.{Sized};
 ghost use Rattle.elias_fano_words.specs.Times.{lastOf};
@@ -14,8 +14,8 @@ ghost use Rattle.elias_fano.specs.Finishing.{zerosOf};
 ghost use Rattle.elias_fano.specs.Made.{builtAnswer};
 ghost use Rattle.elias_fano_words.specs.Image.{highWords};
 ghost use Rattle.elias_fano_words.specs.Sizes.{highLen};
-ghost use Rattle.elias_fano_from_bits.specs.Building.{Countable, Laid, Sizable, OnesTaken, NextTaken, Writing, Zeroed, filedOnes, Ready, Tests};
-ghost use Rattle.elias_fano_from_bits.specs.FromBits.{onesOf, bitsImage, fromBitsOf};
+ghost use Rattle.elias_fano_from_bits.specs.Building.{Countable, Laid, Sizable, OnesTaken, NextTaken, Writing, Zeroed, filedOnes, Ready, Tests, Counted};
+ghost use Rattle.elias_fano_from_bits.specs.FromBits.{onesOf, bitsImage, onesTest, bitsWritten, fromBitsOf};
 use crate::measure::sizes_over;
 use bit_vectors::Place;
 use bit_vectors::unary::Unary;
@@ -178,36 +178,45 @@ fn test_room(words: &[u64], len: usize, n: usize, rank: bool, room: usize) -> Te
     })
 }
 
-// The tests of some bits, with so many words lent.
-fn test(words: &[u64], len: usize, rank: bool, room: usize) -> TestedBits
+// The tests of n ones, with so many words lent.
+fn test_ones(words: &[u64], len: usize, n: usize, rank: bool, room: usize) -> TestedBits
+    requires { ⌜ Counted (now words) len n ⌝ }
     ensures { λ r. ⌜ Tests (now (words .entry)) len rank room r ⌝ }
 {
-    if is_invalid(words, len) {
-        return TestedBits::Refused(Refusal::InvalidBits);
-    }
-    if len == 0 {
-        return TestedBits::Refused(Refusal::NoBits);
-    }
-    let n = count_positions(words, len, true);
-    if n == 0 {
-        return TestedBits::Refused(Refusal::NoOnes);
-    }
     if n as u64 > MAX_VALS {
         return TestedBits::Refused(Refusal::TooMany);
     }
     test_room(words, len, n, rank, room)
 }
 
-// Writes the record of the places of the ones to the front of the buffer, and leaves its later words. The answer is how many words it has. The
+// Writes the record of the places of n ones to the front of the buffer, and leaves its later words. The answer is how many words it has. The
 // universe is the length, and as many values are declared as there are ones.
-pub fn from_bits(words: &[u64], len: usize, rank: bool, buffer: &mut [u64]) -> Built
-    ensures { λ r. ⌜ leaves (builtAnswer r) (now (buffer .exit)) ≡ fromBitsOf (now (words .entry)) len rank (now (buffer .entry)) ⌝ }
+pub fn from_ones(words: &[u64], len: usize, n: usize, rank: bool, buffer: &mut [u64]) -> Built
+    requires { ⌜ Counted (now words) len n ⌝ }
+    ensures { λ r. ⌜ leaves (builtAnswer r) (now (buffer .exit)) ≡ passing (onesTest (now (words .entry)) len rank (length (now (buffer .entry)))) (now (buffer .entry)) (bitsWritten (now (words .entry)) len rank (now (buffer .entry))) ⌝ }
 {
-    match test(words, len, rank, buffer.len()) {
+    match test_ones(words, len, n, rank, buffer.len()) {
         TestedBits::Passed(j) => {
             write(words, len, rank, j, &mut *buffer);
             Built::Words(j.plan.end)
         }
         TestedBits::Refused(e) => Built::Refused(e),
     }
+}
+
+// The same of bits as they are handed in: without a one there is no record of them.
+pub fn from_bits(words: &[u64], len: usize, rank: bool, buffer: &mut [u64]) -> Built
+    ensures { λ r. ⌜ leaves (builtAnswer r) (now (buffer .exit)) ≡ fromBitsOf (now (words .entry)) len rank (now (buffer .entry)) ⌝ }
+{
+    if is_invalid(words, len) {
+        return Built::Refused(Refusal::InvalidBits);
+    }
+    if len == 0 {
+        return Built::Refused(Refusal::NoBits);
+    }
+    let n = count_positions(words, len, true);
+    if n == 0 {
+        return Built::Refused(Refusal::NoOnes);
+    }
+    from_ones(words, len, n, rank, &mut *buffer)
 }

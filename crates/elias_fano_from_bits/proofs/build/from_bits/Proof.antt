@@ -1,40 +1,50 @@
 -- `elias_fano_from_bits::build::from_bits` meets its contract.
 -- Assumes nothing.
 use borrow.Author.Needs.{needs}
+use mathlib.Core.Path.{_≡_, sym, _∙_}
+use native.Mathlib.Nat.{pos-of-ne-zero}
+use lib.ListN.{length}
+use Rattle.bit_words.proofs.Valid.{valid}
+use Rattle.elias_fano_from_bits.specs.FromBits.{onesOf}
 use Rattle.elias_fano_from_bits.proofs.Cases as cases
-use Rattle.elias_fano_from_bits.proofs.Filing as filing
+use Rattle.elias_fano_from_bits.proofs.Ones as ones
 use Rattle.elias_fano_from_bits.proofs.build.from_bits.Statement.{statement}
 use Rattle.elias_fano_from_bits.proofs.build.from_bits.Tie as tie
 
-test-requires : tie.Need-test-requires
-test-requires c κs = search needs
+is-invalid-requires : tie.Need-is-invalid-requires
+is-invalid-requires c κs = search needs
 
-enum-known-j : tie.Need-enum-known-j
-enum-known-j c = search needs
+returns : tie.Need-returns
+returns c = let s = c .before .before .before .before in cases.bits-13 (s .args .words .now) (s .args .len) (s .args .rank) (s .args .buffer .now) (sym (c .before .is-invalid .ensures) ∙ c .if1 .taken)
 
-write-requires : tie.Need-write-requires
-write-requires c κs =
+returns-2 : tie.Need-returns-2
+returns-2 c = let s = c .before .before .before .before .before in cases.bits-10 (s .args .words .now) (s .args .len) (s .args .rank) (s .args .buffer .now) (sym (c .before .before .is-invalid .ensures) ∙ c .before .if1 .left) (c .if2 .taken)
+
+count-positions-requires : tie.Need-count-positions-requires
+count-positions-requires c κs = let s = c .before .before .before .before .before in valid (s .args .words .now) (s .args .len) (sym (c .before .before .is-invalid .ensures) ∙ c .before .if1 .left) .room
+
+-- the ones are counted
+counted : (c : tie.After-count-positions) → c .count-positions .result ≡ length (onesOf (c .before .before .before .before .before .before .args .words .now) (c .before .before .before .before .before .before .args .len))
+counted c = c .count-positions .ensures ∙ sym (ones.many (c .before .before .before .before .before .before .args .words .now) (c .before .before .before .before .before .before .args .len))
+
+returns-3 : tie.Need-returns-3
+returns-3 c =
     let s = c .before .before .before .before .before .before .before in
-    cases.passed (s .args .words .now) (s .args .len) (s .args .rank) _ _ (c .before .before .before .before .test .ensures) _ (c .before .before .j .given .1)
+    cases.bits-11 (s .args .words .now) (s .args .len) (s .args .rank) (s .args .buffer .now) (sym (c .before .before .before .before .is-invalid .ensures) ∙ c .before .before .before .if1 .left) (c .before .before .if2 .left) (sym (counted (c .before)) ∙ c .if3 .taken)
 
-enum-known-e : tie.Need-enum-known-e
-enum-known-e c = search needs
+from-ones-requires : tie.Need-from-ones-requires
+from-ones-requires c κs =
+    record { valid = sym (c .before .before .before .before .before .is-invalid .ensures) ∙ c .before .before .before .before .if1 .left; number = counted (c .before .before); some = pos-of-ne-zero (c .before .if3 .left) }
 
 same-length : tie.Need-same-length
 same-length c = search needs
 
-returns : tie.Need-returns
-returns c =
-    let s = c .before .before .before .before .before .before .before .before .before .before in
-    let h = cases.passed (s .args .words .now) (s .args .len) (s .args .rank) _ _ (c .before .before .before .before .before .before .before .test .ensures) _ (c .before .before .before .before .before .j .given .1) in
-    let ok = h .sizable .countable in
-    cases.from-done (s .args .words .now) (s .args .len) (s .args .rank) (s .args .buffer .now) (cases.bits-done (s .args .words .now) (s .args .len) (s .args .rank) _ ok (h .room))
-    _ (filing.end-is (s .args .words .now) (s .args .len) ok (s .args .rank) _ (h .laid)) _ (c .before .before .write .ensures)
-
-returns-2 : tie.Need-returns-2
-returns-2 c =
-    let s = c .before .before .before .before .before .before in
-    cases.from-refused (s .args .words .now) (s .args .len) (s .args .rank) (s .args .buffer .now) _ (cases.not-passed (s .args .words .now) (s .args .len) (s .args .rank) _ _ (c .before .before .before .test .ensures) _ (c .before .e .given .1))
+returns-4 : tie.Need-returns-4
+returns-4 c =
+    let s = c .before .before .before .before .before .before .before .before .before .before .before in
+    c .before .before .from-ones .ensures
+    ∙ cases.bits-ones (s .args .words .now) (s .args .len) (s .args .rank) (s .args .buffer .now) (sym (c .before .before .before .before .before .before .before .before .is-invalid .ensures) ∙ c .before .before .before .before .before .before .before .if1 .left) (c .before .before .before .before .before .before .if2 .left)
+    (λ e. c .before .before .before .before .if3 .left (counted (c .before .before .before .before .before) ∙ e))
 
 pub from-bits-spec : {M : Type 1} → statement M
-from-bits-spec = tie.close (tie.spec test-requires enum-known-j write-requires enum-known-e same-length returns returns-2)
+from-bits-spec = tie.close (tie.spec is-invalid-requires returns returns-2 count-positions-requires returns-3 from-ones-requires same-length returns-4)

@@ -23,7 +23,7 @@ plan-requires c κs =
 returns : tie.Need-returns
 returns c =
     let s = c .before .before .before .before .before .before .before in
-    cases.bits-3 (s .args .words .now) (s .args .len) (s .args .rank) (s .args .room) (s .pre .0) (subst (λ (y : ℕ). s .args .room < y) (filing.end-is (s .args .words .now) (s .args .len) (s .pre .0) (s .args .rank) _ (c .before .before .plan .ensures)) (c .if1 .taken))
+    cases.ones-3 (s .args .words .now) (s .args .len) (s .args .rank) (s .args .room) (s .pre .0) (subst (λ (y : ℕ). s .args .room < y) (filing.end-is (s .args .words .now) (s .args .len) (s .pre .0) (s .args .rank) _ (c .before .before .plan .ensures)) (c .if1 .taken))
 
 returns-2 : tie.Need-returns-2
 returns-2 c =
