@@ -24,6 +24,17 @@ value-inj a b e = cc
 pub refused-value : (a b : ℕ) → refused a ≡ value b → ⊥
 refused-value a b e = let z : _≡_ {A = ℕ} 0 1 = cc in omega arith
 
+-- ---- what a test of an image decides
+
+pub image-by : (b : Bool) (p q : Parts) → parts p ≡ cond b (parts q) (unopened 7) → (b ≡ true) × (p ≡ q)
+image-by true p q e = (refl, cc)
+image-by false p q e = let z : _≡_ {A = ℕ} 0 1 = cc in absurd (omega arith)
+
+pub refused-by : (b : Bool) (k : ℕ) (q : Parts) (a : Answer) → unopened k ≡ cond b (parts q) (unopened 7) → refused k ≡ cond b a (refused 7)
+refused-by true k q a e = let z : _≡_ {A = ℕ} 0 1 = cc in absurd (omega arith)
+refused-by false k q a e = let d : k ≡ 7 = cc in ap refused d
+
+
 module _ (i : List ℕ) where
   -- ---- a header
 
@@ -46,14 +57,6 @@ module _ (i : List ℕ) where
   open-image strict p e h = ap parts e ∙ sym (ap (λ (b : Bool). cond b (parts (partsOf i)) (unopened 7)) h)
 
   -- ---- a question
-
-  image-by : (b : Bool) (p q : Parts) → parts p ≡ cond b (parts q) (unopened 7) → (b ≡ true) × (p ≡ q)
-  image-by true p q e = (refl, cc)
-  image-by false p q e = let z : _≡_ {A = ℕ} 0 1 = cc in absurd (omega arith)
-
-  refused-by : (b : Bool) (k : ℕ) (q : Parts) (a : Answer) → unopened k ≡ cond b (parts q) (unopened 7) → refused k ≡ cond b a (refused 7)
-  refused-by true k q a e = let z : _≡_ {A = ℕ} 0 1 = cc in absurd (omega arith)
-  refused-by false k q a e = let d : k ≡ 7 = cc in ap refused d
 
   pub is-open : (r : Opened) (p : Parts) → ofOpened r ≡ openOf i → r ≡ opened.Image p → (accepted i ≡ true) × (p ≡ partsOf i)
   unfolding openOf

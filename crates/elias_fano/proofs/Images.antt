@@ -1,16 +1,17 @@
 -- The image of a list in order is accepted and holds that list, and an accepted image is the image of the list that it holds. Assumes nothing.
 use mathlib.Core.Path.{_≡_, refl, sym, ap, _∙_}
-use mathlib.Core.List.{List, [], _++_, append-assoc}
+use mathlib.Core.List.{List, [], _∷_, _++_, append-assoc}
 use mathlib.Core.Bool.{Bool, true, false, _&&_, cond}
 use Prim.Native.Nat.{ℕ, _*_, _^_, _≤_, _<_}
 use native.Mathlib.Nat.{le-refl}
+use native.Mathlib.Omega.{arith}
 use borrow.Author.Tests.{le-leb, lt-ltb, ltb-true, leb-true}
 use lib.Dec.{eqb, leb, ltb}
 use lib.ListN.{length, drop}
 use Rattle.errors.specs.Answer.{refused}
 use Rattle.broadword.specs.Fields.{flag}
 use Rattle.bit_words.specs.Vector.{wordsFor, numberWords}
-use Rattle.darray_positions.specs.Index.{indexWords}
+use Rattle.darray_positions.specs.Index.{table, indexWords}
 use Rattle.darray.specs.Queries.{same}
 use Rattle.elias_fano_words.specs.Sizes.{lowLen}
 use Rattle.elias_fano_words.specs.Image.{highWords, lowWords, highPositions, lowNumber, image}
@@ -62,9 +63,16 @@ module _ (i : List ℕ) (ok : accepted i ≡ true) where
   unfolding accepted
   is-image = same-true i _ (and-true (fit (universe i) (declared i) (times i)) (same i (image (universe i) (declared i) (ranked i) (times i))) ok .1)
 
+-- ---- no words
+
+pub no-times : (i : List ℕ) → length i ≡ 0 → times i ≡ []
+unfolding times timesIn table
+no-times [] e = refl
+no-times (x ∷ i) e = absurd (omega arith)
+
 -- ---- the image of a list
 
-flag-one : (c : Bool) → eqb (flag c) 1 ≡ c
+pub flag-one : (c : Bool) → eqb (flag c) 1 ≡ c
 flag-one true = refl
 flag-one false = refl
 

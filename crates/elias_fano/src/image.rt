@@ -5,7 +5,7 @@ ghost use Prim.Native.Nat.{_-_, _^_, _≤_, _<_};
 ghost use lib.ListN.{getD};
 ghost use Rattle.darray.specs.Pending.{Decides};
 ghost use Rattle.elias_fano_words.specs.Times.{holds, holdsIf};
-ghost use Rattle.elias_fano.specs.Accept.{universe as universeOf, declared, pushed, indexLen, partsBy, partsOf, times, ofOpened, openIf, openOf, ofValue};
+ghost use Rattle.elias_fano.specs.Accept.{universe as universeOf, declared, pushed, indexLen, partsBy, partsOf, noParts, times, ofOpened, openIf, openOf, ofValue};
 ghost use Rattle.elias_fano.specs.Ask.{Select, asked, query};
 ghost use Rattle.elias_fano.specs.Opening.{Counts, Limits, Complete, Headed, Heads, bitsIn, Indexes, Open, OneAt};
 use bit_words::words_for;
@@ -86,6 +86,23 @@ fn parts_of(universe: u64, num_vals: u64, num_pushed: u64, rank: bool, overflow:
         low_at,
         ones_at,
         zeros_at: ones_at + index_len(m, overflow),
+    }
+}
+
+// The parts of no words: for an empty list of sums, or a vector of zeros with so many bits and such a choice.
+pub fn no_parts(universe: u64, rank: bool) -> Parts
+    ensures { λ r. ⌜ r ≡ noParts universe rank ⌝ }
+{
+    Parts {
+        universe,
+        num_vals: 0,
+        num_pushed: 0,
+        rank,
+        low_len: 0,
+        high_len: 0,
+        low_at: 0,
+        ones_at: 0,
+        zeros_at: 0,
     }
 }
 

@@ -24,10 +24,10 @@ use Rattle.elias_fano_queries.proofs.Below as below-law
 use Rattle.elias_fano_queries.proofs.Opened as opened
 
 -- a choice whose test is known
-yes-of : (b : Bool) (x y : Answer) → b ≡ true → cond b x y ≡ x
+pub yes-of : (b : Bool) (x y : Answer) → b ≡ true → cond b x y ≡ x
 yes-of b x y e = ap (λ (t : Bool). cond t x y) e
 
-no-of : (b : Bool) (x y : Answer) → b ≡ false → cond b x y ≡ y
+pub no-of : (b : Bool) (x y : Answer) → b ≡ false → cond b x y ≡ y
 no-of b x y e = ap (λ (t : Bool). cond t x y) e
 
 module _ (i : List ℕ) (ok : accepted i ≡ true) (p : Parts) (ep : p ≡ partsOf i) where

@@ -93,6 +93,13 @@ below-next (t ∷ []) k e h = absurd (not-suc-le-zero (le-of-suc-le-suc h))
 below-next (t ∷ s ∷ T) zero e h = ltb-true t s (and-true (ltb t s) (unrepeated (s ∷ T)) e .0)
 below-next (t ∷ s ∷ T) (suc k) e h = below-next (s ∷ T) k (and-true (ltb t s) (unrepeated (s ∷ T)) e .1) (le-of-suc-le-suc h)
 
+pub no-repeat : (T : List ℕ) → ((k : ℕ) → suc k < length T → getD T k 0 < getD T (suc k) 0) → unrepeated T ≡ true
+unfolding unrepeated
+no-repeat [] h = refl
+no-repeat (t ∷ []) h = refl
+no-repeat (t ∷ s ∷ T) h =
+    true-and (ltb t s) (unrepeated (s ∷ T)) (lt-ltb t s (h 0 (suc-le-suc (zero-lt-suc (length T))))) (no-repeat (s ∷ T) (λ k g. h (suc k) (suc-le-suc g)))
+
 -- by how much the next time is greater at least
 pub steps-of : (s : Bool) (u : ℕ) (T : List ℕ) → rising u 0 T ≡ true → unrepeatedIf s T ≡ true → (k : ℕ) → suc k < length T → getD T k 0 + flag s ≤ getD T (suc k) 0
 steps-of true u T r e k h = omega (arith, below-next T k e h)
@@ -135,15 +142,11 @@ rising-pairs u f m h l =
     let d : k + (m - 1 - k) ≡ m - 1 = omega arith in
     lt-of-le-of-lt (steps f m h k (m - 1 - k) (omega arith)) (subst (λ (i : ℕ). f i < u) (sym d) (l (omega arith))))
 
--- none is repeated where each is below the next
-all-below : (f : ℕ → ℕ) (m : ℕ) → ((k : ℕ) → suc k < m → f k < f (suc k)) → unrepeated (table f m) ≡ true
-unfolding table unrepeated
-all-below f zero h = refl
-all-below f (suc zero) h = refl
-all-below f (suc (suc m)) h =
-    true-and (ltb (f 0) (f 1)) (unrepeated (table (λ i. f (suc i)) (suc m))) (lt-ltb (f 0) (f 1) (h 0 (suc-le-suc (zero-lt-suc m))))
-    (all-below (λ i. f (suc i)) (suc m) (λ k g. h (suc k) (suc-le-suc g)))
-
 pub steps-table : (s : Bool) (f : ℕ → ℕ) (m : ℕ) → ((k : ℕ) → suc k < m → f k + flag s ≤ f (suc k)) → unrepeatedIf s (table f m) ≡ true
-steps-table true f m h = all-below f m (λ k g. omega (arith, h k g))
+steps-table true f m h =
+    no-repeat (table f m) (λ k g.
+    let l = length-table f m in
+    let a = getD-table f m k (omega arith) in
+    let b = getD-table f m (suc k) (omega arith) in
+    omega (arith, h k (omega arith)))
 steps-table false f m h = refl

@@ -10,11 +10,11 @@ use borrow.Author.Tests.{le-ltb, eqb-true}
 use lib.Dec.{eqb, ltb}
 use lib.ListN.{length, getD}
 use Rattle.errors.specs.Answer.{Answer, value, none, refused}
-use Rattle.darray_positions.specs.Index.{table}
-use Rattle.elias_fano_words.specs.Times.{rising, timesIn}
+use Rattle.elias_fano_words.specs.Times.{rising}
 use Rattle.elias_fano_words.proofs.Rising.{rising-first}
 use Rattle.elias_fano.specs.Accept.{times, accepted}
 use Rattle.elias_fano.specs.Ask.{nth, gap, ask, query}
+use Rattle.elias_fano.proofs.Images.{no-times}
 use Rattle.elias_fano_walk.specs.Walking.{valueStepOf, walked}
 use Rattle.elias_fano_walk.proofs.Steps.{walks}
 use Rattle.prefix_summed_elias_fano.specs.Items.{askable, gapsFrom, itemsOf, ItemWalks}
@@ -55,11 +55,6 @@ nth-gap T k = go (decLt k (length T))
         ∙ sym (ap (λ (b : Bool). cond b (value (getD T k 0 - getD (0 ∷ T) k 0)) none) (le-ltb k (length T) h))
 
 -- ---- no words
-
-pub no-times : (i : List ℕ) → length i ≡ 0 → times i ≡ []
-unfolding times timesIn table
-no-times [] e = refl
-no-times (x ∷ i) e = absurd (omega arith)
 
 none-there : (i : List ℕ) (k : ℕ) → length i ≡ 0 → gap (times i) k ≡ none
 unfolding gap

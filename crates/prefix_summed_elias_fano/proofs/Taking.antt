@@ -15,14 +15,14 @@ use Rattle.errors.specs.declared.Refusal.{Refusal}
 use Rattle.elias_fano.specs.declared.image.Opened.{Opened}
 use Rattle.elias_fano.specs.declared.image.Opened.the-variants as opened
 use Rattle.elias_fano.specs.declared.image.Parts.{Parts}
-use Rattle.elias_fano.specs.Accept.{universe, times, accepted, partsOf, parts, unopened, ofOpened, openOf}
+use Rattle.elias_fano.specs.Accept.{universe, times, accepted, partsOf, noParts, parts, unopened, ofOpened, openOf}
 use Rattle.elias_fano.specs.Ask.{nth, readOut, filled}
 use Rattle.elias_fano.proofs.Images as images
 use Rattle.elias_fano.proofs.Selecting as selecting
 use Rattle.elias_fano_walk.specs.declared.walk.Walk.{Walk}
 use Rattle.elias_fano_walk.specs.Walking.{WalkOver, valueStepOf}
 use Rattle.elias_fano_walk.proofs.Reading as reading
-use Rattle.prefix_summed_elias_fano.specs.Items.{askable, itemsOf, noParts, ItemsOver, StartsItems, readItemsOf}
+use Rattle.prefix_summed_elias_fano.specs.Items.{askable, itemsOf, ItemsOver, StartsItems, readItemsOf}
 use Rattle.prefix_summed_elias_fano.specs.declared.walk.ItemPlace.{ItemPlace}
 use Rattle.prefix_summed_elias_fano.specs.declared.walk.ItemWalk.{ItemWalk}
 use Rattle.prefix_summed_elias_fano.specs.declared.walk.ItemsStart.{ItemsStart}
@@ -49,7 +49,7 @@ module _ (i : List ℕ) where
   over-accepted ok p ep k b v o e eb = record { many = selecting.pushed-is i ok p ep; ahead = λ h. record { ok = ok; parts = ep; walk = o; before = eb ∙ ap (λ (j : ℕ). getD (0 ∷ times i) j 0) (sym e) } }
 
   over-none : length i ≡ 0 → (p : Parts) (w : ItemWalk) → p .«num_pushed» ≡ 0 → ItemsOver i p w
-  over-none e p w z = record { many = z ∙ sym (ap length (gaps.no-times i e)); ahead = λ h. absurd (omega (arith, h, z)) }
+  over-none e p w z = record { many = z ∙ sym (ap length (images.no-times i e)); ahead = λ h. absurd (omega (arith, h, z)) }
 
   askable-none : length i ≡ 0 → askable i ≡ true
   unfolding askable
@@ -59,12 +59,12 @@ module _ (i : List ℕ) where
   unfolding askable
   askable-some h = ap (λ (b : Bool). b || accepted i) (ne-eqb (length i) 0 h)
 
-  pub starts-none : length i ≡ 0 → (k : ℕ) (c : ItemPlace) → c .parts ≡ noParts → c .walk .values .number ≡ k → StartsItems i k (started.ItemPlace c)
-  starts-none e k c z n = (askable-none e, over-none e (c .parts) (c .walk) (ap (λ (p : Parts). p .«num_pushed») z), n, z ∙ sym (ap (λ (b : Bool). cond b noParts (partsOf i)) (eq-eqb (length i) 0 e)))
+  pub starts-none : length i ≡ 0 → (k : ℕ) (c : ItemPlace) → c .parts ≡ noParts 0 false → c .walk .values .number ≡ k → StartsItems i k (started.ItemPlace c)
+  starts-none e k c z n = (askable-none e, over-none e (c .parts) (c .walk) (ap (λ (p : Parts). p .«num_pushed») z), n, z ∙ sym (ap (λ (b : Bool). cond b (noParts 0 false) (partsOf i)) (eq-eqb (length i) 0 e)))
 
   module _ (some : length i ≡ 0 → ⊥) (r : Opened) (er : ofOpened r ≡ openOf i) where
     pub starts-opened : accepted i ≡ true → (k : ℕ) (c : ItemPlace) → ItemsOver i (c .parts) (c .walk) → c .walk .values .number ≡ k → c .parts ≡ partsOf i → StartsItems i k (started.ItemPlace c)
-    starts-opened ok k c o n e = (askable-some some ∙ ok, o, n, e ∙ sym (ap (λ (b : Bool). cond b noParts (partsOf i)) (ne-eqb (length i) 0 some)))
+    starts-opened ok k c o n e = (askable-some some ∙ ok, o, n, e ∙ sym (ap (λ (b : Bool). cond b (noParts 0 false) (partsOf i)) (ne-eqb (length i) 0 some)))
 
     refused-by : (b : Bool) (n : ℕ) (q : Parts) → unopened n ≡ cond b (parts q) (unopened 7) → (b ≡ false) × (n ≡ 7)
     refused-by true n q e = let z : _≡_ {A = ℕ} 0 1 = cc in absurd (omega arith)

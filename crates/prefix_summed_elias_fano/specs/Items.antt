@@ -9,7 +9,7 @@ use lib.ListN.{length, getD}
 use Rattle.errors.specs.Answer.{value, refused, Outcome, leaves}
 use Rattle.errors.specs.Refusal.{numberOf}
 use Rattle.elias_fano.specs.declared.image.Parts.{Parts}
-use Rattle.elias_fano.specs.Accept.{accepted, partsOf, times, ofValue}
+use Rattle.elias_fano.specs.Accept.{accepted, partsOf, noParts, times, ofValue}
 use Rattle.elias_fano.specs.Ask.{readOut, filled}
 use Rattle.elias_fano_walk.specs.Walking.{WalkOver, Walked, walked}
 use Rattle.prefix_summed_elias_fano.specs.Sums.{accessOf}
@@ -49,12 +49,8 @@ pub record ItemsOver (i : List ℕ) (p : Parts) (w : ItemWalk) : Type 0 where
   pub many : p .«num_pushed» ≡ length (times i)
   pub ahead : w .values .number < p .«num_pushed» → ItemAhead i p w
 
--- the parts of no words
-abbrev pub noParts : Parts
-noParts = record { universe = 0; «num_vals» = 0; «num_pushed» = 0; rank = false; «low_len» = 0; «high_len» = 0; «low_at» = 0; «ones_at» = 0; «zeros_at» = 0 }
-
 abbrev pub StartsItems : List ℕ → ℕ → ItemsStart → Type 0
-StartsItems i k (started.ItemPlace c) = (askable i ≡ true) × ItemsOver i (c .parts) (c .walk) × (c .walk .values .number ≡ k) × (c .parts ≡ cond (eqb (length i) 0) noParts (partsOf i))
+StartsItems i k (started.ItemPlace c) = (askable i ≡ true) × ItemsOver i (c .parts) (c .walk) × (c .walk .values .number ≡ k) × (c .parts ≡ cond (eqb (length i) 0) (noParts 0 false) (partsOf i))
 StartsItems i k (started.Refused e) = (askable i ≡ false) × (numberOf e ≡ 7)
 
 -- what a step leaves: its answer, and the number of the next item

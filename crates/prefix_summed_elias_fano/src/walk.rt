@@ -2,24 +2,25 @@
 // select. Its state is a value beside the image, which each step takes again. `start_items` decides 7 once; no words have no items.
 //
 // `next_item` and `take_item` are inner: they demand the parts of the image and a walk over it, as `start_items` and each step leave it.
-ghost use mathlib.Core.Bool.{true};
+ghost use mathlib.Core.Bool.{true, false};
 ghost use mathlib.Core.Path.{_≡_};
 ghost use mathlib.Core.List.{_∷_, _++_};
 ghost use Prim.Native.Nat.{suc, _-_, _≤_, _<_};
 ghost use lib.ListN.{length, getD, take as takeList, drop};
 ghost use Rattle.broadword.specs.Places.{Debruijn64};
 ghost use Rattle.errors.specs.Answer.{leaves};
-ghost use Rattle.elias_fano.specs.Accept.{accepted, partsOf, times, ofNumber};
+ghost use Rattle.elias_fano.specs.Accept.{accepted, partsOf, noParts, times, ofNumber};
 ghost use Rattle.elias_fano.specs.Ask.{readOut, filled};
 ghost use Rattle.elias_fano.specs.Opening.{Open};
 ghost use Rattle.elias_fano_walk.specs.Walking.{valueStepOf};
-ghost use Rattle.prefix_summed_elias_fano.specs.Items.{itemsOf, noParts, ItemsOver, StartsItems, ofItemStep, readItemsOf};
+ghost use Rattle.prefix_summed_elias_fano.specs.Items.{itemsOf, ItemsOver, StartsItems, ofItemStep, readItemsOf};
 use broadword::debruijn64_table;
 use broadword::select_in_byte_table;
 use elias_fano::image::Number;
 use elias_fano::image::Opened;
 use elias_fano::image::Parts;
 use elias_fano::image::Value;
+use elias_fano::image::no_parts;
 use elias_fano::image::open;
 use elias_fano::image::value_of;
 use elias_fano_walk::read::how_many;
@@ -87,20 +88,10 @@ fn begin_items(image: &[u64], p: Parts, k: usize) -> ItemPlace
 
 // The place k of no words.
 fn begin_none(k: usize) -> ItemPlace
-    ensures { λ r. ⌜ ((r .parts ≡ noParts) × (r .walk .values .number ≡ k)) ⌝ }
+    ensures { λ r. ⌜ ((r .parts ≡ noParts 0 false) × (r .walk .values .number ≡ k)) ⌝ }
 {
     ItemPlace {
-        parts: Parts {
-            universe: 0,
-            num_vals: 0,
-            num_pushed: 0,
-            rank: false,
-            low_len: 0,
-            high_len: 0,
-            low_at: 0,
-            ones_at: 0,
-            zeros_at: 0,
-        },
+        parts: no_parts(0, false),
         walk: ItemWalk {
             before: 0,
             values: ended(k),

@@ -1,0 +1,5 @@
+pub mod Answering
+pub mod Cases
+pub mod Plain
+pub mod Vectors
+pub mod Written

@@ -1,0 +1,4 @@
+pub mod Ask
+pub mod Build
+pub mod Opened
+pub mod Rows
