@@ -34,7 +34,6 @@ pub refused-by : (b : Bool) (k : ℕ) (q : Parts) (a : Answer) → unopened k �
 refused-by true k q a e = let z : _≡_ {A = ℕ} 0 1 = cc in absurd (omega arith)
 refused-by false k q a e = let d : k ≡ 7 = cc in ap refused d
 
-
 module _ (i : List ℕ) where
   -- ---- a header
 
