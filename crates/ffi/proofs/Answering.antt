@@ -15,19 +15,28 @@ use Rattle.bit_words.proofs.Packed.{set-two}
 use Rattle.elias_fano.specs.declared.image.Opened.{Opened}
 use Rattle.elias_fano.specs.declared.image.Opened.the-variants as opened
 use Rattle.elias_fano.specs.declared.image.Parts.{Parts}
-use Rattle.elias_fano.specs.Accept.{accepted, parts, unopened, partsOf, ofOpened, openOf}
-use Rattle.elias_fano.specs.Ask.{Question, asked, query}
+use Rattle.elias_fano.specs.Accept.{accepted, Opening, parts, unopened, partsOf, ofOpened, openOf, times}
+use Rattle.elias_fano.specs.Ask.{asked, query}
 use Rattle.elias_fano.proofs.Answers as answers
+use Rattle.sarray.specs.Ask.{isVector, sparseAsk, sparseQuery}
+use Rattle.sarray.specs.Opened.{vectorParts, sparseOpen, OpenVector}
 use Rattle.ffi.specs.declared.EfAnswer.{EfAnswer}
 use Rattle.ffi.specs.declared.many.Kind.{Kind}
+use Rattle.ffi.specs.declared.sparse.SparseKind.{SparseKind}
 use Rattle.ffi.specs.Answers.{efAnswer}
-use Rattle.ffi.specs.Many.{questionOf, answerWords, both, answered, manyOf}
+use Rattle.ffi.specs.Many.{questionOf, sparseQuestionOf, answerWords, both, answered, manyIf}
 
 -- ---- one answer
 
 pub one-told : (i : List ℕ) → accepted i ≡ true → (k c : Kind) (x : ℕ) (r : EfAnswer) (a : Answer) → r ≡ efAnswer a → a ≡ asked i (questionOf c x) → k ≡ c → r ≡ efAnswer (query i (questionOf k x))
 one-told i ok k c x r a h e ek =
     h ∙ ap efAnswer (answers.query-opened i a (questionOf c x) ok e) ∙ ap (λ (y : Kind). efAnswer (query i (questionOf y x))) (sym ek)
+
+pub one-sparse : (i : List ℕ) (p : Parts) → OpenVector i p → (k c : SparseKind) (x : ℕ) (r : EfAnswer) (a : Answer) → r ≡ efAnswer a → a ≡ sparseAsk (p .universe) (p .rank) (times i) (sparseQuestionOf c x) → k ≡ c → r ≡ efAnswer (sparseQuery (p .universe) (p .rank) i (sparseQuestionOf k x))
+unfolding sparseQuery
+one-sparse i p o k c x r a h e ek =
+    h ∙ ap efAnswer (e ∙ sym (ap (λ (b : Bool). cond b (sparseAsk (p .universe) (p .rank) (times i) (sparseQuestionOf c x)) (refused 7)) (o .ok)))
+    ∙ ap (λ (y : SparseKind). efAnswer (sparseQuery (p .universe) (p .rank) i (sparseQuestionOf y x))) (sym ek)
 
 pub two-stored : (l : List ℕ) (j a b : ℕ) → j + 1 < length l → set (set l j a) (j + 1) b ≡ take j l ++ a ∷ b ∷ drop (j + 2) l
 two-stored l j a b h =
@@ -104,20 +113,29 @@ module _ (f : ℕ → Answer) (xs d : List ℕ) (count : ℕ) where
 
 -- ---- a whole call
 
-module _ (i : List ℕ) (q : ℕ → Question) (xs d : List ℕ) where
-  pub many-opened : accepted i ≡ true → (n : ℕ) (w : List ℕ) → n ≡ min (length xs) (length d / 2) → w ≡ answered (λ x. query i (q x)) n xs d → leaves (value n) w ≡ manyOf i q xs d
-  unfolding manyOf both
-  many-opened ok n w en ew =
-      let f : ℕ → Answer = λ x. query i (q x) in
+-- ok says whether the words are what is asked, f answers each argument
+module _ (ok : Bool) (f : ℕ → Answer) (xs d : List ℕ) where
+  pub many-opened : ok ≡ true → (n : ℕ) (w : List ℕ) → n ≡ min (length xs) (length d / 2) → w ≡ answered f n xs d → leaves (value n) w ≡ manyIf ok f xs d
+  unfolding manyIf both
+  many-opened e n w en ew =
       ap (leaves (value n)) ew ∙ ap (λ (y : ℕ). leaves (value y) (answered f y xs d)) en
-      ∙ sym (ap (λ (b : Bool). cond b (leaves (value (both xs d)) (answered f (both xs d) xs d)) (leaves (refused 7) d)) ok)
+      ∙ sym (ap (λ (b : Bool). cond b (leaves (value (both xs d)) (answered f (both xs d) xs d)) (leaves (refused 7) d)) e)
 
   refused-by : (b : Bool) (k : ℕ) (p : Parts) (o : Outcome) → unopened k ≡ cond b (parts p) (unopened 7) → leaves (refused k) d ≡ cond b o (leaves (refused 7) d)
   refused-by true k p o e = let z : _≡_ {A = ℕ} 0 1 = cc in absurd (omega arith)
   refused-by false k p o e = let h : k ≡ 7 = cc in ap (λ (y : ℕ). leaves (refused y) d) h
 
-  pub many-refused : (r : Opened) (x : Refusal) (k : ℕ) → ofOpened r ≡ openOf i → r ≡ opened.Refused x → k ≡ numberOf x → leaves (refused k) d ≡ manyOf i q xs d
-  unfolding manyOf openOf
-  many-refused r x k er e ek =
+  pub many-refused : (r : Opened) (p : Parts) (x : Refusal) (k : ℕ) → ofOpened r ≡ cond ok (parts p) (unopened 7) → r ≡ opened.Refused x → k ≡ numberOf x → leaves (refused k) d ≡ manyIf ok f xs d
+  unfolding manyIf
+  many-refused r p x k er e ek =
       ap (λ (y : ℕ). leaves (refused y) d) ek
-      ∙ refused-by (accepted i) (numberOf x) (partsOf i) (leaves (value (both xs d)) (answered (λ y. query i (q y)) (both xs d) xs d)) (sym (ap ofOpened e) ∙ er)
+      ∙ refused-by ok (numberOf x) p (leaves (value (both xs d)) (answered f (both xs d) xs d)) (sym (ap ofOpened e) ∙ er)
+
+-- what opening says is a choice between the parts and 7
+pub by-opening : (i : List ℕ) {a : Opening} → a ≡ openOf i → a ≡ cond (accepted i) (parts (partsOf i)) (unopened 7)
+unfolding openOf
+by-opening i e = e
+
+pub by-sparse : (len : ℕ) (c : Bool) (i : List ℕ) {a : Opening} → a ≡ sparseOpen len c i → a ≡ cond (isVector len c i) (parts (vectorParts len c i)) (unopened 7)
+unfolding sparseOpen
+by-sparse len c i e = e

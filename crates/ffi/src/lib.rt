@@ -1,7 +1,8 @@
-// The record for C and Rust: a static library, thin over `elias_fano` and the crates of its questions, of the record from bits and of the prefix
-// sums. ffi/elias_fano.h says it in C, with who owns which words.
+// The record for C and Rust: a static library, thin over `elias_fano` and the crates of its questions, of the record from bits, of the prefix
+// sums and of the sparse bit vector. ffi/elias_fano.h says it in C, with who owns which words.
 //
-// Here a record is written and opened; `ask` has one question a call, `many` as many as an array holds, `sums` the prefix sums.
+// Here a record is written and opened; `ask` has one question a call, `many` as many as an array holds, `sums` the prefix sums, `sparse` the sparse
+// bit vector.
 ghost use mathlib.Core.Path.{_≡_};
 ghost use Rattle.elias_fano.specs.Accept.{openOf};
 ghost use Rattle.elias_fano.specs.Made.{made};
@@ -11,6 +12,7 @@ ghost use Rattle.ffi.specs.Answers.{ofBuilder, ofRefusal, efAnswer, efOp
 
 mod ask;
 mod many;
+mod sparse;
 mod sums;
 mod tell;
 

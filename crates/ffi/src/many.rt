@@ -60,7 +60,7 @@ fn answer_opened(
 }
 
 // The answer with the number i takes the words 2 i and 2 i + 1.
-fn put(out: &mut [u64], i: usize, a: EfAnswer)
+pub fn put(out: &mut [u64], i: usize, a: EfAnswer)
     requires { ⌜ 2 * i + 1 < length (now out) ⌝ }
     ensures { λ _. ⌜ now (out .exit) ≡ takeList (2 * i) (now (out .entry)) ++ a .kind ∷ a .value ∷ drop (2 * i + 2) (now (out .entry)) ⌝ }
 {
@@ -90,7 +90,7 @@ fn answer_all(
     }
 }
 
-fn lesser(a: usize, b: usize) -> usize
+pub fn lesser(a: usize, b: usize) -> usize
     ensures { λ r. ⌜ r ≡ min a b ⌝ }
 {
     if a < b { a } else { b }

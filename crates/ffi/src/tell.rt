@@ -1,5 +1,6 @@
 // Each answer as C has it: its kind, and the value or the refusal's number.
 ghost use mathlib.Core.Path.{_≡_};
+ghost use Rattle.bit_vectors.specs.Queries.{ofBit, ofCount, ofPlace};
 ghost use Rattle.elias_fano.specs.Accept.{ofNumber, ofValue};
 ghost use Rattle.elias_fano.specs.Made.{builtAnswer};
 ghost use Rattle.elias_fano_queries.specs.Truth.{ofTruth};
@@ -8,6 +9,9 @@ use crate::EF_NONE;
 use crate::EF_REFUSED;
 use crate::EF_VALUE;
 use crate::EfAnswer;
+use bit_vectors::Bit;
+use bit_vectors::Count;
+use bit_vectors::Place;
 use elias_fano::builder::Built;
 use elias_fano::image::Number;
 use elias_fano::image::Value;
@@ -78,6 +82,67 @@ pub fn tell_built(b: Built) -> EfAnswer
             value: k as u64,
         },
         Built::Refused(e) => EfAnswer {
+            kind: EF_REFUSED,
+            value: number(e),
+        },
+    }
+}
+
+// A bit is 0 or 1.
+pub fn tell_bit(b: Bit) -> EfAnswer
+    ensures { λ r. ⌜ r ≡ efAnswer (ofBit b) ⌝ }
+{
+    match b {
+        Bit::Is(set) => {
+            let bit = set as u64;
+            EfAnswer {
+                kind: EF_VALUE,
+                value: bit,
+            }
+        }
+        Bit::Nothing => EfAnswer {
+            kind: EF_NONE,
+            value: 0,
+        },
+        Bit::Refused(e) => EfAnswer {
+            kind: EF_REFUSED,
+            value: number(e),
+        },
+    }
+}
+
+pub fn tell_count(n: Count) -> EfAnswer
+    ensures { λ r. ⌜ r ≡ efAnswer (ofCount n) ⌝ }
+{
+    match n {
+        Count::Ones(k) => EfAnswer {
+            kind: EF_VALUE,
+            value: k as u64,
+        },
+        Count::Nothing => EfAnswer {
+            kind: EF_NONE,
+            value: 0,
+        },
+        Count::Refused(e) => EfAnswer {
+            kind: EF_REFUSED,
+            value: number(e),
+        },
+    }
+}
+
+pub fn tell_place(p: Place) -> EfAnswer
+    ensures { λ r. ⌜ r ≡ efAnswer (ofPlace p) ⌝ }
+{
+    match p {
+        Place::At(i) => EfAnswer {
+            kind: EF_VALUE,
+            value: i as u64,
+        },
+        Place::Nothing => EfAnswer {
+            kind: EF_NONE,
+            value: 0,
+        },
+        Place::Refused(e) => EfAnswer {
             kind: EF_REFUSED,
             value: number(e),
         },

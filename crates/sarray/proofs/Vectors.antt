@@ -143,7 +143,7 @@ module _ (i : List ℕ) (len : ℕ) (c : Bool) where
       unfolding sparseOpen
       told = image-by (isVector len c i) p (vectorParts len c i) (sym (ap ofOpened e) ∙ er)
 
-      same-length : p .universe ≡ len
+      pub same-length : p .universe ≡ len
       unfolding partsBy
       same-length = by (ℕ-discrete (length i) 0)
         where
@@ -151,7 +151,7 @@ module _ (i : List ℕ) (len : ℕ) (c : Bool) where
           by (yes z) = ap (λ (q : Parts). q .universe) (told .1 ∙ no-parts len c i z)
           by (no z) = ap (λ (q : Parts). q .universe) (told .1 ∙ some-parts len c i z) ∙ words-long z (told .0)
 
-      same-choice : p .rank ≡ c
+      pub same-choice : p .rank ≡ c
       unfolding partsBy
       same-choice = by (ℕ-discrete (length i) 0)
         where

@@ -1,6 +1,8 @@
 -- `ffi::many::answer_fitting` meets its contract.
 -- Assumes nothing.
 use borrow.Author.Needs.{needs}
+use Rattle.elias_fano.specs.Accept.{accepted}
+use Rattle.elias_fano.specs.Ask.{query}
 use Rattle.ffi.specs.Many.{questionOf}
 use Rattle.ffi.proofs.Answering as answering
 use Rattle.ffi.proofs.many.answer_fitting.Statement.{statement}
@@ -24,7 +26,7 @@ same-length c = search needs
 returns : tie.Need-returns
 returns c =
     let s = c .before .before .before .before .before .before .before .before .before .before .before .before in
-    answering.many-opened (s .args .image .now) (questionOf (s .args .kind)) (s .args .args .now) (s .args .out .now) (s .pre .ok) _ _ (c .before .before .before .before .before .before .lesser .ensures) (c .before .before .answer-all .ensures)
+    answering.many-opened (accepted (s .args .image .now)) (λ x. query (s .args .image .now) (questionOf (s .args .kind) x)) (s .args .args .now) (s .args .out .now) (s .pre .ok) _ _ (c .before .before .before .before .before .before .lesser .ensures) (c .before .before .answer-all .ensures)
 
 pub answer-fitting-spec : {M : Type 1} → statement M
 answer-fitting-spec =

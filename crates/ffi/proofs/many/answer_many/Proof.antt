@@ -1,6 +1,8 @@
 -- `ffi::many::answer_many` meets its contract.
 -- Assumes nothing.
 use borrow.Author.Needs.{needs}
+use Rattle.elias_fano.specs.Accept.{accepted}
+use Rattle.elias_fano.specs.Ask.{query}
 use Rattle.elias_fano.proofs.Answers as answers
 use Rattle.ffi.specs.Many.{questionOf}
 use Rattle.ffi.proofs.Answering as answering
@@ -32,7 +34,7 @@ returns c = telling.outcome-told _ _ (c .before .before .answer-fitting .ensures
 returns-2 : tie.Need-returns-2
 returns-2 c =
     let s = c .before .before .before .before .before .before .before .before in
-    telling.outcome-told _ _ (answering.many-refused (s .args .words .now) (questionOf (s .args .kind)) (s .args .args .now) (s .args .out .now) _ _ _ (c .before .before .before .before .«open» .ensures) (c .before .before .e .given .1) (c .number .ensures))
+    telling.outcome-told _ _ (answering.many-refused (accepted (s .args .words .now)) (λ x. query (s .args .words .now) (questionOf (s .args .kind) x)) (s .args .args .now) (s .args .out .now) _ _ _ _ (answering.by-opening (s .args .words .now) (c .before .before .before .before .«open» .ensures)) (c .before .before .e .given .1) (c .number .ensures))
 
 pub answer-many-spec : {M : Type 1} → statement M
 answer-many-spec =
