@@ -8,6 +8,8 @@ use crate::walk;
 use crate::words;
 use console_record::Record;
 use console_record::show;
+use console_sarray::Sparse;
+use console_sarray::SparseTold;
 use console_text::line;
 use console_text::line::Arguments;
 use console_text::output;
@@ -23,6 +25,8 @@ pub struct State {
     pub len: usize,
     // The record, but for the buffer's words.
     pub record: Record,
+    // The sparse vector, but for its image.
+    pub sparse: Sparse,
     // How many bytes of output have gathered.
     pub at: usize,
     // Whether the input goes on.
@@ -93,25 +97,42 @@ fn of_numbers(name: &[u8], r: Arguments, words: &mut [u64], len: usize) -> Told 
 }
 
 // What a command of the section Record answers is written, and what it leaves is held.
-fn after(told: console_record::Told, out: &mut [u8; 65536], s: State) -> State {
+fn after(told: SparseTold, out: &mut [u8; 65536], s: State) -> State {
     let mut t = s;
     let reply = told.reply;
     let record = told.record;
+    let sparse = told.sparse;
     t.record = record;
+    t.sparse = sparse;
     t.at = output::reply_line(out, s.at, reply);
     t
 }
 
-// A question over the image: of the record, or of the prefix sums.
-fn asked(name: &[u8], r: Arguments, image: &[u64]) -> Reply {
+// A question over the image: of the record, of the prefix sums, or of the sparse vector.
+fn asked(name: &[u8], r: Arguments, image: &[u64], v: Sparse) -> Reply {
     let question = console_questions::answer(name, r, image);
     if output::is_known(question) {
         return question;
     }
-    console_sums::answer(name, r, image)
+    let sums = console_sums::answer(name, r, image);
+    if output::is_known(sums) {
+        return sums;
+    }
+    console_sarray::answer(name, r, image, v)
 }
 
-// What alters what is held of the record: `from_bits`, which is of the console's bits, or another.
+// What leaves the sparse vector as it is held.
+fn beside(told: console_record::Told, v: Sparse) -> SparseTold {
+    let reply = told.reply;
+    let record = told.record;
+    SparseTold {
+        reply,
+        record,
+        sparse: v,
+    }
+}
+
+// What alters what is held: of the sparse vector, of the record by `from_bits`, which is of the console's bits, or by another command.
 fn altered(
     name: &[u8],
     r: Arguments,
@@ -119,13 +140,19 @@ fn altered(
     len: usize,
     buffer: &mut [u64],
     held: Record,
-) -> console_record::Told {
+    v: Sparse,
+) -> SparseTold {
+    let vector = console_sarray::alter(name, r, bits, len, &mut *buffer, held, v);
+    let said = vector.reply;
+    if output::is_known(said) {
+        return vector;
+    }
     let told = console_sums::bits::answer(name, r, bits, len, &mut *buffer, held);
     let reply = told.reply;
     if output::is_known(reply) {
-        return told;
+        return beside(told, v);
     }
-    console_record::answer(name, r, &mut *buffer, held)
+    beside(console_record::answer(name, r, &mut *buffer, held), v)
 }
 
 // The section Record: a question over the image, or what alters what is held.
@@ -139,12 +166,13 @@ fn of_record(
 ) -> State {
     let mut t = s;
     let held = s.record;
-    let question = asked(name, r, line::first(buffer, held.image));
+    let v = s.sparse;
+    let question = asked(name, r, line::first(buffer, held.image), v);
     if output::is_known(question) {
         t.at = output::reply_line(out, s.at, question);
         return t;
     }
-    after(altered(name, r, bits, s.len, buffer, held), out, s)
+    after(altered(name, r, bits, s.len, buffer, held, v), out, s)
 }
 
 // `sums X..`
@@ -156,7 +184,12 @@ fn summed(
     s: State,
 ) -> State {
     let held = s.record;
-    after(console_sums::build::answer(text, end, buffer, held), out, s)
+    let v = s.sparse;
+    after(
+        beside(console_sums::build::answer(text, end, buffer, held), v),
+        out,
+        s,
+    )
 }
 
 // A command that takes a few numbers and has one answer: what the first two sections do not know is asked of the record.

@@ -140,12 +140,14 @@ fn main() {
     let mut buffer = [0u64; 65536];
     let mut out = [0u8; 65536];
     let record = console_record::nothing();
+    let sparse = console_sarray::nothing();
     let mut s = State {
         count: 0,
         long: false,
         lent: 0,
         len: 0,
         record,
+        sparse,
         at: 0,
         going: true,
     };

@@ -1,12 +1,13 @@
 -- The console's prefix sums, and the record of its bits: what each command says, writes or leaves. i is the image, r the command's numbers, g what has gathered before, w are the
 -- buffer's words, s is what is held. Assumes nothing.
-use mathlib.Core.Bool.{Bool, cond, not, _&&_, _||_}
+use mathlib.Core.Bool.{Bool, true, false, cond, not, _&&_, _||_}
 use mathlib.Core.List.{List, [], _∷_}
 use Prim.Native.Nat.{ℕ, zero, suc}
 use lib.Dec.{eqb, ltb, leb}
 use lib.ListN.{length, take, drop}
 use Rattle.errors.specs.Answer.{Answer, refused, Outcome}
 use Rattle.elias_fano_from_bits.specs.FromBits.{fromBitsOf}
+use Rattle.sarray.specs.Build.{sparseFromBits}
 use Rattle.prefix_summed_elias_fano.specs.Items.{askable}
 use Rattle.prefix_summed_elias_fano.specs.Sums.{fromSliceOf, accessOf, lenOf}
 use Rattle.console_text.specs.declared.line.Arguments.{Arguments}
@@ -74,6 +75,11 @@ fromBitsName = 102 ∷ 114 ∷ 111 ∷ 109 ∷ 95 ∷ 98 ∷ 105 ∷ 116 ∷ 115
 
 abbrev pub fitsChoiceOf : Arguments → Bool
 fitsChoiceOf r = eqb (r .n) 1 && ltb (r .a) 2
+
+-- the call for the bits ws with the length len: of the record, or of the sparse vector
+abbrev pub bitsCall : Bool → List ℕ → ℕ → Bool → List ℕ → Outcome
+bitsCall true = sparseFromBits
+bitsCall false = fromBitsOf
 
 -- `from_bits C`, of the bits ws with the length len; k is 0 where the name is this
 unfoldable pub fromBitsCommand : ℕ → Arguments → List ℕ → ℕ → Record → List ℕ → Turn

@@ -2,7 +2,7 @@
 use lib.ListN.{drop}
 use mathlib.Core.Path.{ap, sym, _∙_}
 use lib.Seq.{length-take-le}
-use Rattle.elias_fano_from_bits.specs.FromBits.{fromBitsOf}
+use Rattle.console_sums.specs.Commands.{bitsCall}
 use Rattle.console_record.specs.Section.{Turn, above}
 use Rattle.console_sums.proofs.Telling.{within-bad, within-ok}
 use borrow.Author.Needs.{needs}
@@ -10,7 +10,7 @@ use Rattle.console_sums.proofs.bits.within.Statement.{statement}
 use Rattle.console_sums.proofs.bits.within.Tie as tie
 
 returns : tie.Need-returns
-returns c = let a = c .before .before .before .args in sym (within-bad (fromBitsOf (a .bits .now) (a .len) (a .rank)) (a .s) (a .buffer .now) (c .if1 .taken))
+returns c = let a = c .before .before .before .args in sym (within-bad (bitsCall (a .sparse) (a .bits .now) (a .len) (a .rank)) (a .s) (a .buffer .now) (c .if1 .taken))
 
 slice-relend-prefix-built : tie.Need-slice-relend-prefix-built
 slice-relend-prefix-built c = search needs
@@ -28,7 +28,7 @@ returns-2 : tie.Need-returns-2
 returns-2 c =
     let a = c .before .before .before .before .before .before .before .args in
     ap (λ (l : Turn). above (drop (a .s .lent) (a .buffer .now)) l) (c .before .before .built .ensures)
-    ∙ sym (within-ok (fromBitsOf (a .bits .now) (a .len) (a .rank)) (a .s) (a .buffer .now) (c .before .before .before .before .if1 .left))
+    ∙ sym (within-ok (bitsCall (a .sparse) (a .bits .now) (a .len) (a .rank)) (a .s) (a .buffer .now) (c .before .before .before .before .if1 .left))
 
 pub within-spec : {M : Type 1} → statement M
 within-spec =
