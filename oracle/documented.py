@@ -2,7 +2,8 @@
 
 Each `assert_eq!` in the doc comments of the ported files is in this table once. A line is `N COMMAND -> ANSWER`: the answer follows from N of
 them (0 for a line that only sets up), and `- CALL N` are N of a call that is not ported.
-`get_bit` is asked as `access`, which is the same in the Rust, and the length of a vector by `dump`, whose words are those of the example.
+`get_bit` is asked as `access`, which is the same in the Rust, and the length of a vector by `dump`, whose words are those of the example; that of
+a sparse vector by the `universe` of its image.
 """
 
 import pathlib
@@ -235,10 +236,52 @@ TABLE = """
 1 sums_access 3 -> none
 """
 
+SPARSE = """
+@ bit_vectors/sarray.rs
+0 buffer 12 0 -> ok
+0 bits 4 9 -> ok
+0 sarray_from_bits 1 -> 12
+1 universe -> 4
+1 sarray_access 1 -> 0
+1 sarray_rank1 1 -> 1
+- rank0 1
+1 sarray_select1 1 -> 3
+0 bits 4 10 -> ok
+0 sarray_from_bits 1 -> 12
+1 sarray_predecessor1 3 -> 3
+1 sarray_predecessor1 2 -> 1
+1 sarray_predecessor1 1 -> 1
+1 sarray_predecessor1 0 -> none
+0 bits 4 5 -> ok
+0 sarray_from_bits 1 -> 12
+1 sarray_successor1 0 -> 0
+1 sarray_successor1 1 -> 2
+1 sarray_successor1 2 -> 2
+1 sarray_successor1 3 -> none
+0 bits 3 1 -> ok
+0 sarray_from_bits 0 -> 10
+1 sarray_access 0 -> 1
+1 sarray_access 1 -> 0
+1 sarray_access 2 -> 0
+1 sarray_access 3 -> none
+0 bits 4 9 -> ok
+0 sarray_from_bits 1 -> 12
+1 sarray_rank1 1 -> 1
+1 sarray_rank1 2 -> 1
+1 sarray_rank1 3 -> 1
+1 sarray_rank1 4 -> 2
+1 sarray_rank1 5 -> none
+- rank0 5
+0 sarray_from_bits 0 -> 10
+1 sarray_select1 0 -> 0
+1 sarray_select1 1 -> 3
+1 sarray_select1 2 -> none
+"""
 
-def files():
+
+def files(table):
     """Each file with its lines, as (how many assertions, command, answer), and how many assertions are of calls that are not ported."""
-    for part in TABLE.strip().split("@ ")[1:]:
+    for part in table.strip().split("@ ")[1:]:
         name, *rows = part.strip().split("\n")
         asked, other = [], 0
         for row in rows:
@@ -251,8 +294,8 @@ def files():
         yield name, asked, other
 
 
-def lines():
-    for name, asked, _ in files():
+def lines(table):
+    for name, asked, _ in files(table):
         yield f"# doc comments of {name}"
         for _, command, _ in asked:
             yield command
@@ -261,7 +304,7 @@ def lines():
 def check():
     """The model answers as the comments say, and no assertion is left out; how many hold, and how many are of other calls."""
     console, held, others = Console(), 0, 0
-    for name, asked, other in files():
+    for name, asked, other in (*files(TABLE), *files(SPARSE)):
         for count, command, answer in asked:
             got = console.line(command.encode())
             if got != answer:

@@ -131,7 +131,7 @@ def add_from_bits(add, count):
     for command, _ in records.pairs(EXAMPLES):
         add(command)
     add.note("the smallest input of each difference from the Rust")
-    for _, smallest, _ in records.DIFFERENCES[records.SUMS :]:
+    for _, smallest, _ in records.DIFFERENCES[records.SUMS : records.FROM_BITS]:
         for line in smallest:
             add(line)
     add_lengths(add)

@@ -1,4 +1,4 @@
-"""The console's sections Words, Bits and Record, plainly, over lists of bits and of times.
+"""The console's sections Words, Bits and Record and its sparse vector, plainly, over lists of bits and of times.
 
 Written from the document that says what is right, not from the Rust: nothing here is clever, and nothing is shared with the crate.
 """
@@ -258,11 +258,15 @@ class Record:
         self.length, self.book, self.opened = len(image), None, None
         return len(image)
 
+    def no_words(self):
+        """No words are the image, and none is written."""
+        self.length, self.opened = 0, None
+        return 0
+
     def sums(self, items):
         """The record of the prefix sums; no items have no words."""
         if not items:
-            self.length, self.opened = 0, None
-            return 0
+            return self.no_words()
         if len(items) > MOST:
             raise Refused(2)
         if sum(items) >= TOP - 1:
@@ -376,14 +380,65 @@ class Record:
         return [len(out), *out, *[0] * (count - len(out))]
 
 
+class Sparse:
+    """A sparse vector: a length and a rank choice, over the record's image. No words are a vector of zeros."""
+
+    def __init__(self, record):
+        self.record = record
+        self.length = 0
+        self.choice = 0
+
+    def sarray(self, length, choice):
+        self.length, self.choice = length, choice
+        return "ok"
+
+    def ones(self):
+        """The set places; 7 where the image is not that of a vector of this length and choice."""
+        if self.record.length == 0:
+            return []
+        settings, rank, times = self.record.accepted()
+        if settings.u != self.length or rank != self.choice:
+            raise Refused(7)
+        if len(times) != settings.n or len(set(times)) != len(times):
+            raise Refused(7)
+        return times
+
+    def ranked(self):
+        """The set places, for what needs the rank choice: 7, then 8."""
+        ones = self.ones()
+        if not self.choice:
+            raise Refused(8)
+        return ones
+
+    def sarray_access(self, p):
+        ones = self.ones()
+        return int(p in ones) if p < self.length else None
+
+    def sarray_rank1(self, p):
+        ones = self.ranked()
+        return sum(1 for x in ones if x < p) if p <= self.length else None
+
+    def sarray_select1(self, k):
+        return kth(self.ones(), k)
+
+    def sarray_predecessor1(self, p):
+        ones = self.ranked()
+        return max((x for x in ones if x <= p), default=None) if p < self.length else None
+
+    def sarray_successor1(self, p):
+        ones = self.ranked()
+        return min((x for x in ones if x >= p), default=None) if p < self.length else None
+
+
 class Console:
-    """Lent words and a length, a record, and the answer to a line."""
+    """Lent words and a length, a record, a sparse vector, and the answer to a line."""
 
     def __init__(self):
         self.length = 0
         self.words = []
         self.known = None  # the bits, while nothing has altered them
         self.record = Record()
+        self.sparse = Sparse(self.record)
 
     def line(self, raw):
         """The answer to a line without its line feed; None where nothing is written."""
@@ -396,12 +451,17 @@ class Console:
         except Bad:
             return "bad command"
         try:
-            held = self.record if name in RECORD and name != "from_bits" else self
-            return shown(getattr(held, name)(*args))
+            return shown(getattr(self.holder(name), name)(*args))
         except Refused as number_of:
             return f"refused {number_of}"
         except Bad:
             return "bad command"
+
+    def holder(self, name):
+        """What the command is of; those that take the console's bits are the console's."""
+        if name in ("from_bits", "sarray_from_bits"):
+            return self
+        return self.record if name in RECORD else self.sparse if name in SPARSE else self
 
     def parse(self, raw):
         """The command's name and its arguments, or Bad."""
@@ -420,7 +480,7 @@ class Console:
             if len(words) < 2:
                 raise Bad
             return name, (number(words[1]), self.parse_steps(words[2:]))
-        forms = RECORD.get(name, FORMS.get(name))
+        forms = ON_BUFFER.get(name, FORMS.get(name))
         if forms is None or len(words) - 1 != len(forms):
             raise Bad
         return name, [form(w) for form, w in zip(forms, words[1:])]
@@ -576,6 +636,12 @@ class Console:
             raise Refused(2)
         return self.record.write(Settings(self.length, len(times)).image(rank, times))
 
+    def sarray_from_bits(self, rank):
+        """The sparse vector of the bits, into the buffer: 13, zeros, 2, 3."""
+        words = self.from_bits(rank) if any(self.vector()) else self.record.no_words()
+        self.sparse.sarray(self.length, rank)
+        return words
+
 
 FORMS = {
     "popcount": (number,),
@@ -628,6 +694,19 @@ RECORD = {
     "sums_walk": (few,),
     "sums_len": (),
 }
+
+SPARSE = {
+    "sarray": (number, choice),
+    "sarray_from_bits": (choice,),
+    "sarray_access": (number,),
+    "sarray_rank1": (number,),
+    "sarray_select1": (number,),
+    "sarray_predecessor1": (number,),
+    "sarray_successor1": (number,),
+}
+
+# All that is over the buffer.
+ON_BUFFER = {**RECORD, **SPARSE}
 
 
 def shown(answer):

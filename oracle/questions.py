@@ -362,20 +362,25 @@ def add_damaged(add):
             add(line)
 
 
+def wrong(add, line):
+    """The line out of form, in many ways."""
+    words = line.split(" ")
+    lines = [" " + line, line + " ", line.upper(), line + "\t", line + " 0", line[1:], line[0] + line]
+    if len(words) > 1:
+        lines += [line.replace(" ", "  ", 1), words[0], " ".join(words[:-1])]
+        for word in add.rng.sample(records.WRONG_WORDS, 2):
+            lines.append(" ".join([*words[:-1], word]))
+            lines.append(" ".join([words[0], word, *words[2:]]))
+    return lines
+
+
 def add_out_of_form(add):
     add.note("questions out of form")
     for line in ("buffer 12 0", *made(20, 4, (3, 4, 4, 13)), "finish 1"):
         add(line)
     right = ("delta 1", "rank 4", "predecessor 4", "successor 5", "search 4", "search_range 0 4 13", "len", "universe", "has_rank")
     for line in (*right, "walk 1 2", "read 1 2"):
-        words = line.split(" ")
-        wrong = [" " + line, line + " ", line.upper(), line + "\t", line + " 0", line[1:], line[0] + line]
-        if len(words) > 1:
-            wrong += [line.replace(" ", "  ", 1), words[0], " ".join(words[:-1])]
-            for word in add.rng.sample(records.WRONG_WORDS, 2):
-                wrong.append(" ".join([*words[:-1], word]))
-                wrong.append(" ".join([words[0], word, *words[2:]]))
-        for bad in wrong:
+        for bad in wrong(add, line):
             add(bad)
         add(line)
     for name in ("walk", "read"):

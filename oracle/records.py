@@ -3,12 +3,13 @@
 The Rust has no image: an image that the model accepts, or that a call writes, is compared word for word with what the Rust
 builds of the same settings and times (`parts`), and each question over it with the Rust's. It has no reading out: a walk of as many steps is
 asked for it. It has a builder: a start, and readings and a finish while nothing but calls has altered the record since, are asked as they come.
-A record from bits or of prefix sums is asked as it comes, over the same bits.
+A record from bits or of prefix sums is asked as it comes, over the same bits, and so is a sparse vector from bits. Where the model takes length,
+choice and image for another sparse vector, the Rust's is put together of them, and each question asked.
 """
 
 import sys
 
-from model import BUFFER, HEAD, MOST, RECORD, TOP, Console, Refused, Settings
+from model import BUFFER, HEAD, MOST, ON_BUFFER, SPARSE, TOP, Console, Refused, Settings
 from rust import ask, image
 
 MAX = TOP - 1
@@ -180,10 +181,31 @@ DIFFERENCES = [
         ["bits 1", "from_bits 0"],
         lambda c: c.name == "from_bits" and c.model == "refused 13" and c.rust == "no vector",
     ),
+    (
+        "13 at a sparse vector, no such bits in the Rust",
+        ["bits 1", "sarray_from_bits 0"],
+        lambda c: c.name == "sarray_from_bits" and c.model == "refused 13" and c.rust == "no vector",
+    ),
+    (
+        "3, a sparse vector allocates",
+        ["bits 1 1", "sarray_from_bits 0"],
+        lambda c: c.name == "sarray_from_bits" and c.model == "refused 3" and c.rust == "ok",
+    ),
+    (
+        "8, a sparse vector without the choice panics",
+        ["sarray 0 0", "sarray_rank1 0"],
+        lambda c: c.name in SPARSE and c.model == "refused 8" and c.rust == "panic",
+    ),
+    (
+        "a rank past the length of zeros is 0 in the Rust",
+        ["sarray 0 1", "sarray_rank1 1"],
+        lambda c: c.name == "sarray_rank1" and c.empty and (c.model, c.rust) == ("none", "0"),
+    ),
 ]
 
-# So many of them are of a start, a reading or a finish, then of questions, then of the prefix sums; the others are of a record from bits.
-BUILDING, ASKING, SUMS = 5, 10, 12
+# So many of them are of a start, a reading or a finish, then of questions, of the prefix sums, of a record from bits; the others are of the
+# sparse vector.
+BUILDING, ASKING, SUMS, FROM_BITS = 5, 10, 12, 14
 
 # A release build answers there as the port does.
 ONLY_IN_DEBUG = DIFFERENCES[ASKING - 1][0]
@@ -211,13 +233,21 @@ class Case:
             walked = self.rust.split(" ") if self.rust else []
             out = [t for t in walked if t != "none"]
             return self.model == " ".join([str(len(out)), *out, *["0"] * (len(walked) - len(out))])
-        if self.name in ("finish", *WHOLE) and self.model.isdigit():
+        if self.name in ("finish", "sarray_from_bits", *WHOLE) and self.model.isdigit():
             return self.rust == "ok"
         return self.model == self.rust
 
 
 def made(u, n, times):
     return [f"start {u} {n}", *(f"reading {t}" for t in times)]
+
+
+def holding(words, times):
+    """What makes the Rust hold the record of these words; of no words, the prefix sums of no items."""
+    if not words:
+        return ["sums"]
+    u, n, _, rank = words[:4]
+    return [*made(u, n, times), f"finish {rank}"]
 
 
 class Builders:
@@ -251,15 +281,12 @@ class Images:
             self.sent.append(line.replace("read", "walk"))
 
     def hold(self, line, answer, words, times):
-        """The Rust is to hold the record of these words; of no words, the prefix sums of no items."""
+        """The Rust is to hold the record of these words, and the same ones."""
         self.held = words
-        if not words:
-            self.sent.append("sums")
-            return
-        u, n, _, rank = words[:4]
-        self.sent += [*made(u, n, times), f"finish {rank}"]
-        self.cases.append(Case(line, "image", answer, len(self.sent), words))
-        self.sent.append("parts")
+        self.sent += holding(words, times)
+        if words:
+            self.cases.append(Case(line, "image", answer, len(self.sent), words))
+            self.sent.append("parts")
 
 
 class Wholes:
@@ -268,28 +295,61 @@ class Wholes:
     def __init__(self):
         self.sent, self.cases, self.bits = [], [], None
 
-    def ask(self, line, name, answer, console):
+    def call(self, line, name, answer, console):
+        """The call, after the bits where they are others."""
         bits = " ".join(map(str, ["bits", console.length, *console.words]))
-        if name == "from_bits" and self.bits != bits:
+        if name != "sums" and self.bits != bits:
             self.sent.append(bits)
             self.bits = bits
         self.cases.append(Case(line, name, answer, len(self.sent)))
         self.sent.append(line)
+
+    def ask(self, line, name, answer, console):
+        self.call(line, name, answer, console)
         words = console.record.lent[: console.record.length]
         if answer.isdigit() and words:
             self.cases.append(Case(line, "image", answer, len(self.sent), words))
             self.sent.append("parts")
 
 
+class Sparses(Wholes):
+    """Sparse vectors: from the bits as they are, or put together of length, choice and record; and questions over them."""
+
+    def __init__(self):
+        super().__init__()
+        self.held = None
+
+    def ask(self, line, name, answer, console):
+        sparse, words = console.sparse, console.record.lent[: console.record.length]
+        vector = sparse.length, sparse.choice, words
+        if name == "sarray_from_bits":
+            self.call(line, name, answer, console)
+            self.held = None
+            if answer.isdigit():
+                self.hold(line, vector)
+            return
+        if self.held != vector:
+            self.sent += [*holding(words, sparse.ones()), f"sarray {sparse.length} {sparse.choice}"]
+            self.hold(line, vector)
+        self.cases.append(Case(line, name, answer, len(self.sent), times=sparse.ones()))
+        self.sent.append(line)
+
+    def hold(self, line, vector):
+        """The Rust holds this vector: its image is to be the same, or none."""
+        self.held = vector
+        self.cases.append(Case(line, "image", "no record", len(self.sent), vector[2] or None))
+        self.sent.append("sarray_parts")
+
+
 def compare(oracle, lines):
     """How often each difference was seen, and how many calls agree of how many."""
-    console, builders, images, wholes = Console(), Builders(), Images(), Wholes()
+    console, builders, images, wholes, sparses = Console(), Builders(), Images(), Wholes(), Sparses()
     for raw in lines:
         line = raw.decode("latin-1")
         name, record = line.split(" ")[0], console.record
         if name in BITS:
             console.line(raw)
-        if name not in RECORD:
+        if name not in ON_BUFFER:
             continue
         before = None if record.book is None else (*record.made[:2], list(record.book) if name == "start" else ())
         answer = console.line(raw)
@@ -299,11 +359,13 @@ def compare(oracle, lines):
             builders.ask(line, name, answer, before)
         if name in WHOLE:
             wholes.ask(line, name, answer, console)
+        if name in SPARSE and name != "sarray" and answer != "refused 7":
+            sparses.ask(line, name, answer, console)
         refused = answer == "refused 7" if name in ASKED else answer.startswith("refused")
         if name in ("finish", "open", *ASKED, *ITEMS) and not refused:
             images.ask(line, name, answer, record)
     seen, agreed, asked = [0] * len(DIFFERENCES), 0, 0
-    for stream in (builders, images, wholes):
+    for stream in (builders, images, wholes, sparses):
         told = ask(oracle, stream.sent)
         for case in stream.cases:
             case.rust = told[case.at]

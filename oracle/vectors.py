@@ -1,5 +1,5 @@
 #!/usr/bin/env python3
-"""Makes the console's test vectors for words, bits and the record, and compares them with the Rust.
+"""Makes the console's test vectors for words, bits, the record and the sparse vector, and compares them with the Rust.
 
     vectors.py [--oracle PATH] [--stdin PATH] [--stdout PATH]    writes both files
     vectors.py --check                                           writes nothing, and fails if they would change
@@ -20,8 +20,9 @@ import documented
 import from_bits
 import questions
 import records
+import sarrays
 import sums
-from model import LENT, LINE, RECORD, TOP, Console, used_words
+from model import LENT, LINE, ON_BUFFER, TOP, Console, used_words
 from rust import ask, image
 
 HERE = pathlib.Path(__file__).resolve().parent
@@ -157,6 +158,16 @@ sums 18446744073709551615 -> error InvalidArgument
 sums -> ok
 sums_len -> 0
 sums_access 0 -> none
+bits 20 8216 -> ok
+sarray_from_bits 1 -> ok
+sarray_parts -> 20 3 3 1 2 ; 10 : 37 ; 6 : 19 ; 3 | 0 | 0 | ; 7 | 1 | 0 |
+sarray_rank1 21 -> none
+bits 1 0 -> ok
+sarray_from_bits 1 -> ok
+sarray_parts -> no record
+sarray_rank1 2 -> 0
+sarray_from_bits 0 -> ok
+sarray_rank1 2 -> panic
 uleq_step_8 128 1 -> 72340172838076673
 uleq_step_8 0 128 -> 72340172838076672
 leq_step_8 0 128 -> 72340172838076672
@@ -311,7 +322,7 @@ def replay(lines):
         before = console.length, list(console.words), console.is_bad()
         answer = console.line(line)
         answers.append(answer)
-        if answer not in (None, "bad command") and line.split(b" ")[0].decode() not in RECORD:
+        if answer not in (None, "bad command") and line.split(b" ")[0].decode() not in ON_BUFFER:
             cases.append((line, Case(*console.parse(line), answer, *before)))
     return answers, cases
 
@@ -994,8 +1005,9 @@ def make(seed, count):
     questions.add_questions(add, count // 13)
     sums.add_sums(add, count // 20)
     from_bits.add_from_bits(add, count // 20)
-    for line in documented.lines():
+    for line in documented.lines(documented.TABLE):
         add(line)
+    sarrays.add_sarrays(add, count // 50)
     add.note("the last line lacks its line feed")
     add("dump")
     return add.lines
@@ -1043,7 +1055,7 @@ def main():
     check_examples(oracle)
     records.check_examples(oracle)
     questions.check_examples()
-    for table in (sums.EXAMPLES, from_bits.EXAMPLES):
+    for table in (sums.EXAMPLES, from_bits.EXAMPLES, sarrays.EXAMPLES):
         records.hold(table)
     held, others = documented.check()
     check_records(oracle)
@@ -1053,8 +1065,8 @@ def main():
     record = records.compare(oracle, lines)
     if args.exhaustive:
         bits = together(bits, compare(oracle, exhaustive())[1:])
-        for lines_of in (records.exhaustive(), questions.exhaustive(), sums.exhaustive(), from_bits.exhaustive()):
-            record = together(record, records.compare(oracle, lines_of))
+        for section in (records, questions, sums, from_bits, sarrays):
+            record = together(record, records.compare(oracle, section.exhaustive()))
     written = [a for a in answers if a is not None]
     if not args.exhaustive:
         for path, text in ((args.stdin, b"\n".join(lines)), (args.stdout, "".join(a + "\n" for a in written).encode())):

@@ -9,7 +9,7 @@ use std::panic::{self, AssertUnwindSafe};
 
 use sucds::bit_vectors::bit_vector::unary::UnaryIter;
 use sucds::bit_vectors::darray::inner::DArrayIndex;
-use sucds::bit_vectors::{Access as _, BitVector, Rank, Select};
+use sucds::bit_vectors::{Access as _, BitVector, Rank, SArray, Select};
 use sucds::broadword;
 use sucds::int_vectors::{Access as _, PrefixSummedEliasFano};
 use sucds::mii_sequences::{EliasFano, EliasFanoBuilder};
@@ -27,6 +27,7 @@ struct Held {
     record: Option<PrefixSummedEliasFano>,
     /// The declared count of the record, which the Rust does not keep.
     declared: usize,
+    sparse: SArray,
 }
 
 /// None is a command out of form.
@@ -65,6 +66,7 @@ fn answer(held: &mut Held, line: &str) -> Answer {
         .or_else(|| on_bits(held, name, &args))
         .or_else(|| on_build(held, name, &args))
         .or_else(|| on_record(held, name, &args))
+        .or_else(|| on_sparse(held, name, &args))
 }
 
 // Words.
@@ -330,6 +332,46 @@ fn parts(ef: &EliasFano, declared: usize) -> String {
     ];
     parts.extend(ef.high_bits.s0.as_ref().map(index));
     parts.join(" ; ")
+}
+
+// Sparse vector.
+
+fn on_sparse(held: &mut Held, name: &str, args: &[u64]) -> Answer {
+    match (name, args) {
+        ("sarray", &[len, c]) => {
+            let ef = held.record.as_ref().and_then(|record| record.ef.clone());
+            held.sparse = SArray {
+                num_bits: len as usize,
+                num_ones: ef.as_ref().map_or(0, EliasFano::len),
+                has_rank: choice(c)?,
+                ef,
+            };
+            return ok();
+        }
+        ("sarray_from_bits", &[c]) => {
+            let rank = choice(c)?;
+            let Some(bits) = &held.bits else {
+                return Some("no vector".to_string());
+            };
+            let sparse = SArray::from_bits(bits.iter());
+            held.sparse = if rank { sparse.enable_rank() } else { sparse };
+            return ok();
+        }
+        _ => {}
+    }
+    let sparse = &held.sparse;
+    Some(match (name, args) {
+        ("sarray_parts", &[]) => match &sparse.ef {
+            Some(ef) => parts(ef, sparse.num_ones()),
+            None => "no record".to_string(),
+        },
+        ("sarray_access", &[p]) => maybe(sparse.access(p as usize).map(u8::from)),
+        ("sarray_rank1", &[p]) => maybe(sparse.rank1(p as usize)),
+        ("sarray_select1", &[k]) => maybe(sparse.select1(k as usize)),
+        ("sarray_predecessor1", &[p]) => maybe(sparse.predecessor1(p as usize)),
+        ("sarray_successor1", &[p]) => maybe(sparse.successor1(p as usize)),
+        _ => return None,
+    })
 }
 
 // Text.
