@@ -226,7 +226,7 @@ fn main() {
     let equal = Equal::new();
     let bits: Vec<bulk::Bits> = SIZES
         .into_iter()
-        .filter_map(|n| bulk::Bits::new(n, random))
+        .filter_map(|n| bulk::Bits::asked(n, random))
         .collect();
     let sums: Vec<bulk::Sums> = SIZES
         .into_iter()
@@ -244,18 +244,24 @@ fn main() {
     earlier_port(random);
 }
 
+/// A table beside another peer than the Rust.
+#[cfg(any(feature = "sdsl", feature = "before"))]
+fn further(peer: &'static str, rows: impl Fn(&mut Table)) {
+    let mut table = Table::new(peer);
+    for _ in 0..ROUNDS {
+        rows(&mut table);
+    }
+    println!();
+    table.print();
+}
+
 #[cfg(feature = "sdsl")]
 fn second_peer(random: &mut Random) {
-    let mut table = Table::new("sdsl");
     let lists: Vec<sdsl::Strict> = SIZES
         .into_iter()
         .filter_map(|n| sdsl::Strict::new(n, random))
         .collect();
-    for _ in 0..ROUNDS {
-        lists.iter().for_each(|l| l.rows(&mut table));
-    }
-    println!();
-    table.print();
+    further("sdsl", |table| lists.iter().for_each(|l| l.rows(table)));
 }
 
 #[cfg(not(feature = "sdsl"))]
@@ -263,13 +269,8 @@ fn second_peer(_: &mut Random) {}
 
 #[cfg(feature = "before")]
 fn earlier_port(random: &mut Random) {
-    let mut table = Table::new("before");
     let lists = before::lists(random);
-    for _ in 0..ROUNDS {
-        lists.iter().for_each(|l| l.rows(&mut table));
-    }
-    println!();
-    table.print();
+    further("before", |table| lists.iter().for_each(|l| l.rows(table)));
 }
 
 #[cfg(not(feature = "before"))]

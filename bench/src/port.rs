@@ -291,10 +291,15 @@ pub fn record_read(image: &[u64], out: &mut [u64]) -> u64 {
     read.get().expect("a number")
 }
 
-/// How many words the image has.
-pub fn from_bits(words: &[u64], len: usize, rank: bool, buffer: &mut [u64]) -> usize {
+/// Makes the image of bits.
+pub type FromBits = unsafe extern "C" fn(*const u64, usize, usize, bool, *mut u64, usize) -> Answer;
+
+pub const FROM_BITS: FromBits = c::ef_from_bits;
+
+/// How many words the image with rank has.
+pub fn from_bits(make: FromBits, words: &[u64], len: usize, buffer: &mut [u64]) -> usize {
     let (at, m) = (buffer.as_mut_ptr(), buffer.len());
-    let answer = unsafe { c::ef_from_bits(words.as_ptr(), words.len(), len, rank, at, m) };
+    let answer = unsafe { make(words.as_ptr(), words.len(), len, true, at, m) };
     answer.get().expect("a length") as usize
 }
 

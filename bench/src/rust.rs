@@ -105,6 +105,18 @@ pub fn record_build(b: EliasFanoBuilder, rank: bool) -> EliasFano {
     }
 }
 
+/// The bits as the Rust takes them.
+pub fn bits(words: &[u64], len: usize) -> impl Iterator<Item = bool> + '_ {
+    (0..len).map(|i| words[i / 64] >> (i % 64) & 1 == 1)
+}
+
+#[inline(never)]
+pub fn from_bits(words: &[u64], len: usize) -> EliasFano {
+    EliasFano::from_bits(bits(words, len))
+        .expect("some bits are set")
+        .enable_rank()
+}
+
 /// Each answer goes to the lent words, as the port's do.
 #[inline(never)]
 pub fn record_ask(ask: impl Fn(u64) -> Option<u64>, args: &[u64], out: &mut [Option<u64>]) {
