@@ -7,6 +7,7 @@ mod port;
 mod questions;
 mod record;
 mod rust;
+mod sarray;
 #[cfg(feature = "sdsl")]
 mod sdsl;
 mod table;
@@ -232,20 +233,24 @@ fn main() {
         .into_iter()
         .filter_map(|n| bulk::Sums::new(n, random))
         .collect();
+    let vectors = sarray::vectors(random);
     for _ in 0..ROUNDS {
         round(&mut table);
         records.iter().for_each(|r| r.rows(&mut table));
         equal.iter().for_each(|e| e.row(&mut table));
         bits.iter().for_each(|b| b.rows(&mut table));
         sums.iter().for_each(|s| s.rows(&mut table));
+        vectors.iter().for_each(|v| v.rows(&mut table));
     }
     table.print();
+    further("record", |table| {
+        vectors.iter().for_each(|v| v.opened(table))
+    });
     second_peer(random);
     earlier_port(random);
 }
 
 /// A table beside another peer than the Rust.
-#[cfg(any(feature = "sdsl", feature = "before"))]
 fn further(peer: &'static str, rows: impl Fn(&mut Table)) {
     let mut table = Table::new(peer);
     for _ in 0..ROUNDS {
