@@ -36,21 +36,21 @@ extern "C" {
 
 /* Refusals. A refused call alters no word, and says why; 0 is no refusal. They are tested in this order: ef_new 1, 2, 3; ef_push 7, 3, 4,
  * 5, 6; ef_build 7 by the builder's numbers, 3 by the size of the start, 7 by the words, 3 by the image's length; ef_from_bits 13, 10, 11, 2, 3;
- * ef_sums_from_slice 2, 12, 3. */
+ * ef_sarray_from_bits 13, 2, 3; ef_sums_from_slice 2, 12, 3. */
 enum {
     EF_NO_VALUES = 1,       /* ef_new: num_vals is 0 */
-    EF_TOO_MANY = 2,        /* ef_new: num_vals is over 16,777,216; ef_from_bits, ef_sums_from_slice: there are more ones or items */
+    EF_TOO_MANY = 2,        /* ef_new: num_vals is over 16,777,216; ef_from_bits, ef_sarray_from_bits, ef_sums_from_slice: more ones or items */
     EF_SHORT_BUFFER = 3,    /* ef_new, ef_push, ef_build: below the size of the start; all that make an image: below its length */
     EF_DECREASING = 4,      /* ef_push: the value is below the last one */
     EF_OUT_OF_UNIVERSE = 5, /* ef_push: the value is not below the universe */
     EF_FULL = 6,            /* ef_push: num_vals values were pushed */
     EF_INVALID = 7,         /* no run leaves such a builder (ef_push, ef_build), such words (ef_build) or such an image (all that take one) */
-    EF_NO_RANK_INDEX = 8,   /* ef_rank, ef_predecessor, ef_successor: the image was built without rank */
+    EF_NO_RANK_INDEX = 8,   /* ef_rank, ef_predecessor, ef_successor: the image was built without rank; of a sparse vector: `rank` is false */
     EF_RANGE = 9,           /* ef_binsearch_range: a range that is not empty ends past the values */
     EF_NO_BITS = 10,        /* ef_from_bits: there are 0 bits */
     EF_NO_ONES = 11,        /* ef_from_bits: none of them is 1 */
     EF_SUM_TOO_LARGE = 12,  /* ef_sums_from_slice: the sum is 2^64 - 1 or more */
-    EF_INVALID_BITS = 13    /* ef_from_bits: the words are too few for the bits, or a bit past them in the last word used is 1 */
+    EF_INVALID_BITS = 13    /* ef_from_bits, ef_sarray_from_bits: the words are too few for the bits, or a bit past them in the last word used is 1 */
 };
 
 /* How far a record is written: 32 bytes. It may be copied and stored; one that no run leaves, as all zeros, is refused with 7. */
@@ -156,7 +156,7 @@ EfAnswer ef_binsearches(const uint64_t *image, size_t len, const uint64_t *value
  *
  * A list of items, in any order, by the sums of its first one, two, three and so on: they are the values of an image whose universe is 1 plus the
  * sum, without rank. `buffer` must have its length, with n the number of items and u as said. No items are accepted and have no words: the
- * answer is 0, and the three questions take an image of length 0 (all others refuse it with 7). They take every other image too: an item
+ * answer is 0, and the three questions take an image of length 0 (those of the record refuse it with 7). They take every other image too: an item
  * is the difference of two neighbouring values. */
 
 /* Makes the image of the items. The answer is its length: it stands in the first words of the buffer, and the later ones stay. */
@@ -171,6 +171,50 @@ EfAnswer ef_sums_len(const uint64_t *image, size_t len);
 /* Writes the items from the place k on to `out`, as many as there are or as it takes, and answers how many. The later words stay. 7 is decided
  * once, and each item costs a step of a walk: who wants all of them asks so. */
 EfAnswer ef_sums_read(const uint64_t *image, size_t len, size_t k, uint64_t *out, size_t out_len);
+
+/* ---- a sparse bit vector
+ *
+ * A vector is its length num_bits, its rank choice and its image, and the caller keeps all three. The image is the one that ef_from_bits makes of
+ * the same bits, and as long: u is num_bits, and n the number of ones. A vector of zeros, the empty one among them, has no words: an image of length
+ * 0 is one of any num_bits, with the choice or without.
+ *
+ * Each question decides 7 first, in linear time: for words that ef_open refuses, a universe that is not num_bits, a word 3 that is not the choice, fewer
+ * values than declared, or a value that is there twice. Then one that needs the choice is refused with 8 without it, whatever the place. */
+
+/* Makes the image of a vector, from bits as ef_from_bits takes them. The answer is its length: it stands in the first words of the buffer, and the
+ * later ones stay. For zeros it is 0, and nothing is written. */
+EfAnswer ef_sarray_from_bits(const uint64_t *bits, size_t len, size_t num_bits, bool rank, uint64_t *buffer, size_t buffer_len);
+
+/* 0 if the words are the image of a vector of that length and choice, or there are none, else 7. Linear time. */
+uint64_t ef_sarray_open(const uint64_t *image, size_t len, size_t num_bits, bool rank);
+
+/* The bit at the place pos, 1 or 0; EF_NONE from num_bits on. */
+EfAnswer ef_sarray_access(const uint64_t *image, size_t len, size_t num_bits, bool rank, size_t pos);
+
+/* How many ones stand before the place pos; EF_NONE above num_bits. Needs the choice. */
+EfAnswer ef_sarray_rank1(const uint64_t *image, size_t len, size_t num_bits, bool rank, size_t pos);
+
+/* The place of the one with the number k, counted from 0; EF_NONE from the number of ones on. */
+EfAnswer ef_sarray_select1(const uint64_t *image, size_t len, size_t num_bits, bool rank, size_t k);
+
+/* The place of the last one at pos or before it; EF_NONE if there is none, and from num_bits on. Needs the choice. */
+EfAnswer ef_sarray_predecessor1(const uint64_t *image, size_t len, size_t num_bits, bool rank, size_t pos);
+
+/* The place of the first one at pos or after it; EF_NONE if there is none, and from num_bits on. Needs the choice. */
+EfAnswer ef_sarray_successor1(const uint64_t *image, size_t len, size_t num_bits, bool rank, size_t pos);
+
+/* The same with an array of arguments, as the many questions of a record: 7 is decided once, `out` takes two words to each answer, and the answer of
+ * the call is how many there are. A question may be refused by itself, with 8. */
+EfAnswer ef_sarray_accesses(const uint64_t *image, size_t len, size_t num_bits, bool rank, const uint64_t *positions, size_t count, uint64_t *out,
+                            size_t out_len);
+EfAnswer ef_sarray_rank1s(const uint64_t *image, size_t len, size_t num_bits, bool rank, const uint64_t *positions, size_t count, uint64_t *out,
+                          size_t out_len);
+EfAnswer ef_sarray_select1s(const uint64_t *image, size_t len, size_t num_bits, bool rank, const uint64_t *ks, size_t count, uint64_t *out,
+                            size_t out_len);
+EfAnswer ef_sarray_predecessor1s(const uint64_t *image, size_t len, size_t num_bits, bool rank, const uint64_t *positions, size_t count,
+                                 uint64_t *out, size_t out_len);
+EfAnswer ef_sarray_successor1s(const uint64_t *image, size_t len, size_t num_bits, bool rank, const uint64_t *positions, size_t count, uint64_t *out,
+                               size_t out_len);
 
 #ifdef __cplusplus
 }

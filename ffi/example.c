@@ -1,5 +1,5 @@
 /* A record of burner starts in C: written, finished, asked every question, kept in a file, refused once for each reason, and how long its
- * buffers must be; a record from bits, and a list of items by its prefix sums. `ffi/run` builds and runs it. */
+ * buffers must be; a record from bits, a list of items by its prefix sums, and a sparse bit vector. `ffi/run` builds and runs it. */
 #include "elias_fano.h"
 #include <inttypes.h>
 #include <stdio.h>
@@ -159,6 +159,8 @@ static bool is_none(EfAnswer a) { return a.kind == EF_NONE && a.value == 0; }
 
 static bool is_refused(EfAnswer a, uint64_t refusal) { return a.kind == EF_REFUSED && a.value == refusal; }
 
+static bool same(EfAnswer a, EfAnswer b) { return a.kind == b.kind && a.value == b.value; }
+
 /* The image of 3, 4, 4, 13 below 20. */
 static size_t image_of_four(bool rank, uint64_t *buffer, size_t len) {
     static const uint64_t times[] = {3, 4, 4, 13};
@@ -194,7 +196,7 @@ static void at_once(const char *what, const uint64_t *w, size_t len, const uint6
     EfAnswer all[3] = {{5, 5}, {5, 5}, {5, 5}};
     must(is_value(many(w, len, args, 3, (uint64_t *)all, 6), 3), what);
     for (size_t i = 0; i < 3; i++) {
-        must(all[i].kind == one[i].kind && all[i].value == one[i].value, what);
+        must(same(all[i], one[i]), what);
         all[i] = (EfAnswer){5, 5};
     }
     must(is_value(many(w, len, args, 3, (uint64_t *)all, 5), 2) && all[2].kind == 5 && all[2].value == 5, what);
@@ -310,6 +312,70 @@ static void prefix_sums(void) {
     must(is_refused(ef_len(w, 0), EF_INVALID), "a record question of no words");
 }
 
+/* ---- a sparse bit vector */
+
+typedef EfAnswer (*OfVector)(const uint64_t *, size_t, size_t, bool, size_t);
+typedef EfAnswer (*ManyOfVector)(const uint64_t *, size_t, size_t, bool, const uint64_t *, size_t, uint64_t *, size_t);
+
+static EfAnswer value(uint64_t x) { return (EfAnswer){EF_VALUE, x}; }
+
+/* A question of a vector of 20 bits: each of five arguments by itself, and all at once. */
+static void of_vector(const char *what, const uint64_t *w, size_t len, bool rank, OfVector one, ManyOfVector many, const uint64_t args[5],
+                      const EfAnswer expected[5]) {
+    EfAnswer all[5];
+    must(is_value(many(w, len, 20, rank, args, 5, (uint64_t *)all, 10), 5), what);
+    for (size_t i = 0; i < 5; i++) {
+        must(same(one(w, len, 20, rank, args[i]), expected[i]) && same(all[i], expected[i]), what);
+    }
+}
+
+static void sparse(void) {
+    static const uint64_t bits[] = {8216}; /* places 3, 4 and 13 */
+    static const uint64_t padded[] = {8216 + (1 << 20)};
+    static const uint64_t zeros[] = {0};
+    static const uint64_t at[5] = {4, 5, 19, 20, 21}, ks[5] = {0, 1, 2, 3, 21};
+    const EfAnswer no = {EF_NONE, 0}, eight = {EF_REFUSED, EF_NO_RANK_INDEX};
+    const EfAnswer nones[5] = {no, no, no, no, no}, eights[5] = {eight, eight, eight, eight, eight};
+    const EfAnswer set[5] = {value(1), value(0), value(0), no, no}, ones[5] = {value(3), value(4), value(13), no, no};
+    uint64_t w[16], record[16];
+    for (size_t i = 0; i < 16; i++) {
+        w[i] = record[i] = 7;
+    }
+    must(is_refused(ef_sarray_from_bits(padded, 1, 20, true, w, 16), EF_INVALID_BITS), "a bit past the vector");
+    must(is_refused(ef_sarray_from_bits(bits, 1, 20, true, w, 11), EF_SHORT_BUFFER) && w[0] == 7, "a vector in a short buffer");
+    must(is_value(ef_sarray_from_bits(bits, 1, 20, true, w, 16), 12) && ef_sarray_open(w, 12, 20, true) == 0, "the image of a vector");
+    must(is_value(ef_from_bits(bits, 1, 20, true, record, 16), 12) && memcmp(w, record, sizeof w) == 0, "which is the record's");
+    of_vector("access", w, 12, true, ef_sarray_access, ef_sarray_accesses, at, set);
+    of_vector("rank1", w, 12, true, ef_sarray_rank1, ef_sarray_rank1s, at, (EfAnswer[5]){value(1), value(2), value(3), value(3), no});
+    of_vector("select1", w, 12, true, ef_sarray_select1, ef_sarray_select1s, ks, ones);
+    of_vector("predecessor1", w, 12, true, ef_sarray_predecessor1, ef_sarray_predecessor1s, at, (EfAnswer[5]){value(4), value(4), value(13), no, no});
+    of_vector("successor1", w, 12, true, ef_sarray_successor1, ef_sarray_successor1s, at, (EfAnswer[5]){value(4), value(13), no, no, no});
+
+    uint64_t out[2] = {5, 5};
+    must(ef_sarray_open(w, 12, 21, true) == EF_INVALID && is_refused(ef_sarray_access(w, 12, 21, true, 4), EF_INVALID), "another length");
+    must(is_refused(ef_sarray_accesses(w, 12, 21, true, at, 1, out, 2), EF_INVALID) && out[0] == 5 && out[1] == 5, "many of another length");
+    must(ef_sarray_open(w, 12, 20, false) == EF_INVALID && is_refused(ef_sarray_rank1(w, 12, 20, false, 4), EF_INVALID), "another choice");
+    size_t four = image_of_four(true, record, 16);
+    must(ef_open(record, four) == 0 && ef_sarray_open(record, four, 20, true) == EF_INVALID, "a value that is there twice");
+
+    must(is_value(ef_sarray_from_bits(bits, 1, 20, false, w, 16), 10) && ef_sarray_open(w, 10, 20, false) == 0, "a vector without the choice");
+    of_vector("access without it", w, 10, false, ef_sarray_access, ef_sarray_accesses, at, set);
+    of_vector("rank1 without it", w, 10, false, ef_sarray_rank1, ef_sarray_rank1s, at, eights);
+    of_vector("select1 without it", w, 10, false, ef_sarray_select1, ef_sarray_select1s, ks, ones);
+    of_vector("predecessor1 without it", w, 10, false, ef_sarray_predecessor1, ef_sarray_predecessor1s, at, eights);
+    of_vector("successor1 without it", w, 10, false, ef_sarray_successor1, ef_sarray_successor1s, at, eights);
+
+    w[0] = 7;
+    must(is_value(ef_sarray_from_bits(zeros, 1, 20, true, w, 16), 0) && w[0] == 7 && ef_sarray_open(w, 0, 20, true) == 0, "zeros");
+    of_vector("access of zeros", w, 0, true, ef_sarray_access, ef_sarray_accesses, at, (EfAnswer[5]){value(0), value(0), value(0), no, no});
+    of_vector("rank1 of zeros", w, 0, true, ef_sarray_rank1, ef_sarray_rank1s, at, (EfAnswer[5]){value(0), value(0), value(0), value(0), no});
+    of_vector("select1 of zeros", w, 0, true, ef_sarray_select1, ef_sarray_select1s, ks, nones);
+    of_vector("predecessor1 of zeros", w, 0, true, ef_sarray_predecessor1, ef_sarray_predecessor1s, at, nones);
+    of_vector("successor1 of zeros", w, 0, true, ef_sarray_successor1, ef_sarray_successor1s, at, nones);
+    of_vector("rank1 of zeros without the choice", w, 0, false, ef_sarray_rank1, ef_sarray_rank1s, at, eights);
+    must(is_value(ef_sarray_from_bits(bits, 0, 0, true, w, 16), 0) && is_none(ef_sarray_access(w, 0, 0, true, 0)), "a vector of no bits");
+}
+
 int main(void) {
     uint64_t image[16];
     size_t len = image_of_four(true, image, 16);
@@ -321,6 +387,7 @@ int main(void) {
     kept(image, len);
     from_bits();
     prefix_sums();
+    sparse();
     sizes(20, 4, 4, 3, true);
     sizes(0, 1, 0, 0, true);
     sizes(UINT64_MAX, 1, 1, 0, true);

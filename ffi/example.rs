@@ -1,5 +1,5 @@
-// A record of burner starts in Rust, over the same library, asked every question, the same from bits, and the gaps between them by their prefix
-// sums. `ffi/run` builds and runs it.
+// A record of burner starts in Rust, over the same library, asked every question, the same from bits, the gaps between them by their prefix
+// sums, and their seconds as a sparse bit vector. `ffi/run` builds and runs it.
 #[repr(C)]
 #[derive(Clone, Debug, PartialEq)]
 struct EfBuilder {
@@ -90,6 +90,28 @@ extern "C" {
     fn ef_sums_access(image: *const u64, len: usize, pos: usize) -> EfAnswer;
     fn ef_sums_len(image: *const u64, len: usize) -> EfAnswer;
     fn ef_sums_read(image: *const u64, len: usize, k: usize, out: *mut u64, out_len: usize) -> EfAnswer;
+    fn ef_sarray_from_bits(bits: *const u64, len: usize, num_bits: usize, rank: bool, buffer: *mut u64, buffer_len: usize) -> EfAnswer;
+    fn ef_sarray_open(image: *const u64, len: usize, num_bits: usize, rank: bool) -> u64;
+    fn ef_sarray_access(image: *const u64, len: usize, num_bits: usize, rank: bool, pos: usize) -> EfAnswer;
+    fn ef_sarray_rank1(image: *const u64, len: usize, num_bits: usize, rank: bool, pos: usize) -> EfAnswer;
+    fn ef_sarray_select1(image: *const u64, len: usize, num_bits: usize, rank: bool, k: usize) -> EfAnswer;
+    fn ef_sarray_predecessor1(image: *const u64, len: usize, num_bits: usize, rank: bool, pos: usize) -> EfAnswer;
+    fn ef_sarray_successor1(image: *const u64, len: usize, num_bits: usize, rank: bool, pos: usize) -> EfAnswer;
+    fn ef_sarray_accesses(
+        image: *const u64, len: usize, num_bits: usize, rank: bool, positions: *const u64, count: usize, out: *mut u64, out_len: usize,
+    ) -> EfAnswer;
+    fn ef_sarray_rank1s(
+        image: *const u64, len: usize, num_bits: usize, rank: bool, positions: *const u64, count: usize, out: *mut u64, out_len: usize,
+    ) -> EfAnswer;
+    fn ef_sarray_select1s(
+        image: *const u64, len: usize, num_bits: usize, rank: bool, ks: *const u64, count: usize, out: *mut u64, out_len: usize,
+    ) -> EfAnswer;
+    fn ef_sarray_predecessor1s(
+        image: *const u64, len: usize, num_bits: usize, rank: bool, positions: *const u64, count: usize, out: *mut u64, out_len: usize,
+    ) -> EfAnswer;
+    fn ef_sarray_successor1s(
+        image: *const u64, len: usize, num_bits: usize, rank: bool, positions: *const u64, count: usize, out: *mut u64, out_len: usize,
+    ) -> EfAnswer;
 }
 
 /// A value, a plain none, or a refusal.
@@ -122,11 +144,14 @@ fn plain(question: Plain, image: &[u64]) -> Answer {
 }
 
 fn many(question: Many, image: &[u64], args: &[u64]) -> Result<Vec<Answer>, Refusal> {
-    let mut out = vec![EfAnswer { kind: 9, value: 9 }; args.len()];
-    let words = out.as_mut_ptr().cast();
-    let a = unsafe { question(image.as_ptr(), image.len(), args.as_ptr(), args.len(), words, 2 * args.len()) };
-    let count = answer(a)?.expect("a number") as usize;
-    Ok(out[..count].iter().map(|&a| answer(a)).collect())
+    answers(args.len(), |out, len| unsafe { question(image.as_ptr(), image.len(), args.as_ptr(), args.len(), out, len) })
+}
+
+// What a call writes to the words that so many answers take.
+fn answers(count: usize, call: impl FnOnce(*mut u64, usize) -> EfAnswer) -> Result<Vec<Answer>, Refusal> {
+    let mut out = vec![EfAnswer { kind: 9, value: 9 }; count];
+    let answered = answer(call(out.as_mut_ptr().cast(), 2 * count))?.expect("a number") as usize;
+    Ok(out[..answered].iter().map(|&a| answer(a)).collect())
 }
 
 fn binsearch_range(image: &[u64], a: usize, b: usize, value: u64) -> Answer {
@@ -155,10 +180,11 @@ fn build(builder: EfBuilder, rank: bool, buffer: &mut [u64]) -> Result<usize, (R
 }
 
 fn open(image: &[u64]) -> Result<(), Refusal> {
-    match unsafe { ef_open(image.as_ptr(), image.len()) } {
-        0 => Ok(()),
-        number => Err(refusal(number)),
-    }
+    opened(unsafe { ef_open(image.as_ptr(), image.len()) })
+}
+
+fn opened(number: u64) -> Result<(), Refusal> {
+    if number == 0 { Ok(()) } else { Err(refusal(number)) }
 }
 
 fn select(image: &[u64], k: usize) -> Answer {
@@ -188,6 +214,19 @@ fn at_least(times: &[u64], value: u64) -> Option<u64> {
     times[below(times, value) as usize..].first().copied()
 }
 
+/// Each answer is as the list has it, and some are asked for by themselves.
+fn compare(name: &str, args: &[u64], answers: &[Answer], by_list: impl Fn(u64) -> Answer, alone: impl Fn(u64) -> Answer) {
+    assert_eq!(answers, args.iter().map(|&x| by_list(x)).collect::<Vec<_>>(), "{name}");
+    for i in (0..args.len()).step_by(997) {
+        assert_eq!(alone(args[i]), answers[i], "{name}");
+    }
+}
+
+/// Some numbers below the universe, those of the list, and some from the universe on.
+fn around(list: &[u64], universe: u64) -> Vec<u64> {
+    (0..universe + 3).step_by(101).chain(list.iter().copied()).chain(universe.saturating_sub(1)..universe + 3).collect()
+}
+
 /// Every question by the many, each answer as the list has it, and some by themselves. The list ends below the universe.
 fn questions(image: &[u64], times: &[u64], universe: u64) {
     let ks: Vec<u64> = (0..times.len() as u64 + 3).collect();
@@ -196,13 +235,10 @@ fn questions(image: &[u64], times: &[u64], universe: u64) {
     let delta = |k: u64| Ok(gap(times, k as usize));
     assert_eq!(many(ef_deltas, image, &ks).unwrap(), ks.iter().map(|&k| delta(k)).collect::<Vec<_>>());
 
-    let values: Vec<u64> = (0..universe + 3).step_by(101).chain(times.iter().copied()).chain(universe - 1..universe + 3).collect();
+    let values = around(times, universe);
     let check = |name: &str, all: Many, alone: One, by_list: &dyn Fn(u64) -> Option<u64>| {
         let answers = many(all, image, &values).unwrap();
-        assert_eq!(answers, values.iter().map(|&v| Ok(by_list(v))).collect::<Vec<_>>(), "{name}");
-        for i in (0..values.len()).step_by(997) {
-            assert_eq!(one(alone, image, values[i]), answers[i], "{name}");
-        }
+        compare(name, &values, &answers, |v| Ok(by_list(v)), |v| one(alone, image, v));
     };
     let inside = |v: u64, answer: Option<u64>| if v < universe { answer } else { None };
     check("rank", ef_ranks, ef_rank, &|v| (v <= universe).then(|| below(times, v)));
@@ -233,16 +269,28 @@ fn other_questions(image: &[u64], times: &[u64], universe: u64) {
     assert_eq!(read_from(image, n, &mut out), Ok(Some(0)));
 }
 
+type FromBits = unsafe extern "C" fn(*const u64, usize, usize, bool, *mut u64, usize) -> EfAnswer;
+
+fn image_by(make: FromBits, bits: &[u64], num_bits: usize, rank: bool, buffer: &mut [u64]) -> Answer {
+    answer(unsafe { make(bits.as_ptr(), bits.len(), num_bits, rank, buffer.as_mut_ptr(), buffer.len()) })
+}
+
 fn image_of_bits(bits: &[u64], num_bits: usize, rank: bool, buffer: &mut [u64]) -> Answer {
-    answer(unsafe { ef_from_bits(bits.as_ptr(), bits.len(), num_bits, rank, buffer.as_mut_ptr(), buffer.len()) })
+    image_by(ef_from_bits, bits, num_bits, rank, buffer)
+}
+
+// Bits with ones at these places.
+fn bits_of(places: &[u64], num_bits: usize) -> Vec<u64> {
+    let mut bits = vec![0; num_bits.div_ceil(64)];
+    for &p in places {
+        bits[p as usize / 64] |= 1 << (p % 64);
+    }
+    bits
 }
 
 /// The record of these places below the universe by one call is word for word the one by pushes, with rank and without.
 fn from_bits(places: &[u64], universe: usize) {
-    let mut bits = vec![0; universe.div_ceil(64)];
-    for &p in places {
-        bits[p as usize / 64] |= 1 << (p % 64);
-    }
+    let bits = bits_of(places, universe);
     for rank in [false, true] {
         let mut pushed = vec![7; 3 * start_words(universe as u64, places.len() as u64) + 99];
         let mut b = new(universe as u64, places.len() as u64, &mut pushed).unwrap();
@@ -295,6 +343,78 @@ fn prefix_sums(items: &[u64], record: &[u64]) {
     }
     assert_eq!(sums_from_slice(&[], &mut buffer), Ok(Some(0)));
     assert_eq!((plain(ef_sums_len, &[]), by_number(ef_sums_access, &[], 0), sums_read(&[], 0, &mut short)), (Ok(Some(0)), Ok(None), Ok(Some(0))));
+}
+
+/// A sparse bit vector: no words are one of zeros.
+#[derive(Clone, Copy)]
+struct Vector<'a> {
+    image: &'a [u64],
+    num_bits: usize,
+    rank: bool,
+}
+
+type OfVector = unsafe extern "C" fn(*const u64, usize, usize, bool, usize) -> EfAnswer;
+type ManyOfVector = unsafe extern "C" fn(*const u64, usize, usize, bool, *const u64, usize, *mut u64, usize) -> EfAnswer;
+
+impl Vector<'_> {
+    fn open(self) -> Result<(), Refusal> {
+        opened(unsafe { ef_sarray_open(self.image.as_ptr(), self.image.len(), self.num_bits, self.rank) })
+    }
+
+    fn one(self, question: OfVector, arg: u64) -> Answer {
+        answer(unsafe { question(self.image.as_ptr(), self.image.len(), self.num_bits, self.rank, arg as usize) })
+    }
+
+    fn many(self, question: ManyOfVector, args: &[u64]) -> Result<Vec<Answer>, Refusal> {
+        let (image, n, count) = (self.image.as_ptr(), self.image.len(), args.len());
+        answers(count, |out, len| unsafe { question(image, n, self.num_bits, self.rank, args.as_ptr(), count, out, len) })
+    }
+
+    /// Every question by the many, each answer as the list of the ones' places has it, and some by themselves. Without the choice three are
+    /// refused, whatever the place.
+    fn questions(self, ones: &[u64]) {
+        assert_eq!(self.open(), Ok(()));
+        let len = self.num_bits as u64;
+        let (ks, positions): (Vec<u64>, _) = ((0..ones.len() as u64 + 3).collect(), around(ones, len));
+        let check = |name: &str, args: &[u64], all: ManyOfVector, alone: OfVector, by_list: &dyn Fn(u64) -> Answer| {
+            compare(name, args, &self.many(all, args).unwrap(), by_list, |x| self.one(alone, x));
+        };
+        let ranked = |answer: Option<u64>| if self.rank { Ok(answer) } else { Err(Refusal::NoRankIndex) };
+        let inside = |p: u64, answer: Option<u64>| if p < len { answer } else { None };
+        let is_one = |p: u64| first_of(ones, p).map_or(0, |_| 1);
+        check("access", &positions, ef_sarray_accesses, ef_sarray_access, &|p| Ok(inside(p, Some(is_one(p)))));
+        check("rank1", &positions, ef_sarray_rank1s, ef_sarray_rank1, &|p| ranked((p <= len).then(|| below(ones, p))));
+        check("select1", &ks, ef_sarray_select1s, ef_sarray_select1, &|k| Ok(ones.get(k as usize).copied()));
+        check("predecessor1", &positions, ef_sarray_predecessor1s, ef_sarray_predecessor1, &|p| ranked(inside(p, at_most(ones, p))));
+        check("successor1", &positions, ef_sarray_successor1s, ef_sarray_successor1, &|p| ranked(inside(p, at_least(ones, p))));
+    }
+}
+
+/// The vector with ones at these places, with rank and without: its image is the record's. Then zeros, and no bits.
+fn sparse(ones: &[u64], num_bits: usize) {
+    let make = |bits: &[u64], num_bits, rank, buffer: &mut [u64]| image_by(ef_sarray_from_bits, bits, num_bits, rank, buffer);
+    let bits = bits_of(ones, num_bits);
+    assert_eq!(make(&bits[1..], num_bits, true, &mut []), Err(Refusal::InvalidBits));
+    for rank in [false, true] {
+        let mut record = vec![7; 3 * start_words(num_bits as u64, ones.len() as u64) + 99];
+        let mut buffer = record.clone();
+        let len = image_of_bits(&bits, num_bits, rank, &mut record).unwrap().unwrap() as usize;
+        assert_eq!(make(&bits, num_bits, rank, &mut buffer[..len - 1]), Err(Refusal::ShortBuffer));
+        assert_eq!(make(&bits, num_bits, rank, &mut buffer), Ok(Some(len as u64)));
+        assert_eq!(buffer, record);
+        let vector = Vector { image: &buffer[..len], num_bits, rank };
+        vector.questions(ones);
+        for other in [Vector { num_bits: num_bits + 1, ..vector }, Vector { rank: !rank, ..vector }] {
+            assert_eq!(other.open(), Err(Refusal::Invalid));
+            assert_eq!(other.one(ef_sarray_rank1, 4), Err(Refusal::Invalid));
+            assert_eq!(other.many(ef_sarray_accesses, ones), Err(Refusal::Invalid));
+        }
+        for num_bits in [num_bits, 0] {
+            assert_eq!(make(&vec![0; bits.len()], num_bits, rank, &mut buffer), Ok(Some(0)));
+            assert_eq!(buffer, record);
+            Vector { image: &[], num_bits, rank }.questions(&[]);
+        }
+    }
 }
 
 // What ef_new zeroes, as in elias_fano.h.
@@ -353,6 +473,8 @@ fn main() {
     from_bits(&places, now as usize + 1);
     from_bits(&(0..70_000).collect::<Vec<_>>(), 1 << 23);
     from_bits(&(0..60_000).chain(188_003..218_003).collect::<Vec<_>>(), 1 << 18);
+    sparse(&places, now as usize + 1);
+    assert_eq!(Vector { image, num_bits: now as usize + 1, rank: true }.open(), Err(Refusal::Invalid), "a second that is there twice");
     // a file has 8 bytes a word, little end first
     let file: Vec<u8> = image.iter().flat_map(|w| w.to_le_bytes()).collect();
     let read: Vec<u64> = file.chunks(8).map(|b| u64::from_le_bytes(b.try_into().unwrap())).collect();

@@ -3,9 +3,8 @@
 use std::hint::black_box;
 
 use sucds::int_vectors::{Access, PrefixSummedEliasFano};
-use sucds::mii_sequences::EliasFano;
 
-use crate::port::{self, Answer};
+use crate::port::{self, Answer, FromBits};
 use crate::record::{at_a_million, name};
 use crate::table::{is_asked, Table};
 use crate::{rust, Random, QUESTIONS};
@@ -18,58 +17,59 @@ const LARGEST: usize = 1800;
 
 const FROM_BITS: &str = "from bits with rank";
 
-/// Bits with so many ones, or about.
+/// Bits with so many ones, or about, and their image with rank.
 pub struct Bits {
-    words: Vec<u64>,
-    len: usize,
-    ones: usize,
-    n: usize,
-    image: Vec<u64>,
-}
-
-fn rust_from_bits(words: &[u64], len: usize) -> EliasFano {
-    let bits = (0..len).map(|i| words[i / 64] >> (i % 64) & 1 == 1);
-    EliasFano::from_bits(bits)
-        .expect("some bits are set")
-        .enable_rank()
+    pub words: Vec<u64>,
+    pub len: usize,
+    pub ones: usize,
+    pub n: usize,
+    pub image: Vec<u64>,
+    make: FromBits,
 }
 
 impl Bits {
-    /// None where the row is not asked for. What both sides make is compared, word for word.
-    pub fn new(n: usize, random: &mut Random) -> Option<Self> {
-        if !is_asked(&name(FROM_BITS, n)) {
-            return None;
-        }
-        let len = n * RARITY;
+    /// None where the row is not asked for.
+    pub fn asked(n: usize, random: &mut Random) -> Option<Self> {
+        is_asked(&name(FROM_BITS, n)).then(|| Self::new(n, RARITY, port::FROM_BITS, random))
+    }
+
+    /// One bit in `rarity` is set. What the port makes is compared with the Rust's record of the bits, word for word.
+    pub fn new(n: usize, rarity: usize, make: FromBits, random: &mut Random) -> Self {
+        let len = n * rarity;
         let mut words = vec![0u64; len.div_ceil(64)];
         let mut ones = 0;
         for i in 0..len {
-            if ones < n && random.below(RARITY) == 0 {
+            if ones < n && random.below(rarity) == 0 {
                 words[i / 64] |= 1 << (i % 64);
                 ones += 1;
             }
         }
-        let image = rust::image_words(&rust_from_bits(&words, len), ones);
+        let image = rust::image_words(&rust::from_bits(&words, len), ones);
         let mut ours = vec![u64::MAX; image.len()];
-        assert_eq!(port::from_bits(&words, len, true, &mut ours), image.len());
+        assert_eq!(port::from_bits(make, &words, len, &mut ours), image.len());
         assert_eq!(ours, image, "from bits, {n}");
-        Some(Self {
+        Self {
             words,
             len,
             ones,
             n,
             image,
-        })
+            make,
+        }
     }
 
     pub fn rows(&self, table: &mut Table) {
+        self.row(table, &name(FROM_BITS, self.n), rust::from_bits);
+    }
+
+    pub fn row<T>(&self, table: &mut Table, what: &str, rust: impl Fn(&[u64], usize) -> T) {
         let mut buffer = vec![0; self.image.len()];
         table.row(
-            &name(FROM_BITS, self.n),
+            what,
             self.ones,
             at_a_million(self.n, 0.15),
-            || rust_from_bits(black_box(&self.words), self.len),
-            || port::from_bits(black_box(&self.words), self.len, true, &mut buffer),
+            || rust(black_box(&self.words), self.len),
+            || port::from_bits(self.make, black_box(&self.words), self.len, &mut buffer),
         );
     }
 }

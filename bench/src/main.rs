@@ -7,6 +7,7 @@ mod port;
 mod questions;
 mod record;
 mod rust;
+mod sarray;
 #[cfg(feature = "sdsl")]
 mod sdsl;
 mod table;
@@ -226,36 +227,46 @@ fn main() {
     let equal = Equal::new();
     let bits: Vec<bulk::Bits> = SIZES
         .into_iter()
-        .filter_map(|n| bulk::Bits::new(n, random))
+        .filter_map(|n| bulk::Bits::asked(n, random))
         .collect();
     let sums: Vec<bulk::Sums> = SIZES
         .into_iter()
         .filter_map(|n| bulk::Sums::new(n, random))
         .collect();
+    let vectors = sarray::vectors(random);
     for _ in 0..ROUNDS {
         round(&mut table);
         records.iter().for_each(|r| r.rows(&mut table));
         equal.iter().for_each(|e| e.row(&mut table));
         bits.iter().for_each(|b| b.rows(&mut table));
         sums.iter().for_each(|s| s.rows(&mut table));
+        vectors.iter().for_each(|v| v.rows(&mut table));
     }
     table.print();
+    further("record", |table| {
+        vectors.iter().for_each(|v| v.opened(table))
+    });
     second_peer(random);
     earlier_port(random);
 }
 
+/// A table beside another peer than the Rust.
+fn further(peer: &'static str, rows: impl Fn(&mut Table)) {
+    let mut table = Table::new(peer);
+    for _ in 0..ROUNDS {
+        rows(&mut table);
+    }
+    println!();
+    table.print();
+}
+
 #[cfg(feature = "sdsl")]
 fn second_peer(random: &mut Random) {
-    let mut table = Table::new("sdsl");
     let lists: Vec<sdsl::Strict> = SIZES
         .into_iter()
         .filter_map(|n| sdsl::Strict::new(n, random))
         .collect();
-    for _ in 0..ROUNDS {
-        lists.iter().for_each(|l| l.rows(&mut table));
-    }
-    println!();
-    table.print();
+    further("sdsl", |table| lists.iter().for_each(|l| l.rows(table)));
 }
 
 #[cfg(not(feature = "sdsl"))]
@@ -263,13 +274,8 @@ fn second_peer(_: &mut Random) {}
 
 #[cfg(feature = "before")]
 fn earlier_port(random: &mut Random) {
-    let mut table = Table::new("before");
     let lists = before::lists(random);
-    for _ in 0..ROUNDS {
-        lists.iter().for_each(|l| l.rows(&mut table));
-    }
-    println!();
-    table.print();
+    further("before", |table| lists.iter().for_each(|l| l.rows(table)));
 }
 
 #[cfg(not(feature = "before"))]

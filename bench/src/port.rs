@@ -1,4 +1,4 @@
-//! The port's functions, as crates/bench_exports has them, and those of crates/ffi for a record. A slice crosses as a pointer and a count.
+//! The port's functions, as crates/bench_exports has them, and those of crates/ffi for a record and a sparse vector. A slice crosses as a pointer and a count.
 
 /// How far a record is written, as ffi/elias_fano.h has it.
 #[repr(C)]
@@ -161,6 +161,65 @@ mod c {
             o: *mut u64,
             j: usize,
         ) -> Answer;
+        pub fn ef_sarray_from_bits(
+            words: *const u64,
+            n: usize,
+            len: usize,
+            rank: bool,
+            buffer: *mut u64,
+            m: usize,
+        ) -> Answer;
+        pub fn ef_sarray_open(image: *const u64, n: usize, len: usize, rank: bool) -> u64;
+        pub fn ef_sarray_accesses(
+            i: *const u64,
+            n: usize,
+            len: usize,
+            rank: bool,
+            a: *const u64,
+            m: usize,
+            o: *mut u64,
+            j: usize,
+        ) -> Answer;
+        pub fn ef_sarray_rank1s(
+            i: *const u64,
+            n: usize,
+            len: usize,
+            rank: bool,
+            a: *const u64,
+            m: usize,
+            o: *mut u64,
+            j: usize,
+        ) -> Answer;
+        pub fn ef_sarray_select1s(
+            i: *const u64,
+            n: usize,
+            len: usize,
+            rank: bool,
+            a: *const u64,
+            m: usize,
+            o: *mut u64,
+            j: usize,
+        ) -> Answer;
+        pub fn ef_sarray_predecessor1s(
+            i: *const u64,
+            n: usize,
+            len: usize,
+            rank: bool,
+            a: *const u64,
+            m: usize,
+            o: *mut u64,
+            j: usize,
+        ) -> Answer;
+        pub fn ef_sarray_successor1s(
+            i: *const u64,
+            n: usize,
+            len: usize,
+            rank: bool,
+            a: *const u64,
+            m: usize,
+            o: *mut u64,
+            j: usize,
+        ) -> Answer;
     }
 }
 
@@ -291,10 +350,16 @@ pub fn record_read(image: &[u64], out: &mut [u64]) -> u64 {
     read.get().expect("a number")
 }
 
-/// How many words the image has.
-pub fn from_bits(words: &[u64], len: usize, rank: bool, buffer: &mut [u64]) -> usize {
+/// Makes the image of bits.
+pub type FromBits = unsafe extern "C" fn(*const u64, usize, usize, bool, *mut u64, usize) -> Answer;
+
+pub const FROM_BITS: FromBits = c::ef_from_bits;
+pub const SARRAY_FROM_BITS: FromBits = c::ef_sarray_from_bits;
+
+/// How many words the image with rank has.
+pub fn from_bits(make: FromBits, words: &[u64], len: usize, buffer: &mut [u64]) -> usize {
     let (at, m) = (buffer.as_mut_ptr(), buffer.len());
-    let answer = unsafe { c::ef_from_bits(words.as_ptr(), words.len(), len, rank, at, m) };
+    let answer = unsafe { make(words.as_ptr(), words.len(), len, true, at, m) };
     answer.get().expect("a length") as usize
 }
 
@@ -328,5 +393,42 @@ pub fn record_ask(ask: Many, image: &[u64], args: &[u64], out: &mut [Answer]) ->
     let words = out.as_mut_ptr().cast();
     let (n, m) = (image.len(), args.len());
     let answered = unsafe { ask(image.as_ptr(), n, args.as_ptr(), m, words, 2 * out.len()) };
+    answered.get().expect("a number")
+}
+
+/// 0 if the words are the image of a vector of so many bits, with rank.
+pub fn sarray_open(image: &[u64], len: usize) -> u64 {
+    unsafe { c::ef_sarray_open(image.as_ptr(), image.len(), len, true) }
+}
+
+/// Many questions of a sparse vector at once.
+pub type SarrayMany = unsafe extern "C" fn(
+    *const u64,
+    usize,
+    usize,
+    bool,
+    *const u64,
+    usize,
+    *mut u64,
+    usize,
+) -> Answer;
+
+pub const ACCESSES: SarrayMany = c::ef_sarray_accesses;
+pub const RANK1S: SarrayMany = c::ef_sarray_rank1s;
+pub const SELECT1S: SarrayMany = c::ef_sarray_select1s;
+pub const PREDECESSOR1S: SarrayMany = c::ef_sarray_predecessor1s;
+pub const SUCCESSOR1S: SarrayMany = c::ef_sarray_successor1s;
+
+/// How many questions of a vector of so many bits, with rank, were answered: all.
+pub fn sarray_ask(
+    ask: SarrayMany,
+    image: &[u64],
+    len: usize,
+    args: &[u64],
+    out: &mut [Answer],
+) -> u64 {
+    let (at, n, words) = (image.as_ptr(), image.len(), out.as_mut_ptr().cast());
+    let (args, m) = (args.as_ptr(), args.len());
+    let answered = unsafe { ask(at, n, len, true, args, m, words, 2 * out.len()) };
     answered.get().expect("a number")
 }

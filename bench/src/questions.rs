@@ -23,10 +23,10 @@ pub const ROWS: [&str; 9] = [
 
 /// What is asked: numbers, values, values that are there and values that are not.
 pub struct Questions {
-    ks: Vec<u64>,
-    values: Vec<u64>,
-    hits: Vec<u64>,
-    misses: Vec<u64>,
+    pub ks: Vec<u64>,
+    pub values: Vec<u64>,
+    pub hits: Vec<u64>,
+    pub misses: Vec<u64>,
 }
 
 /// A value that is there is moved on to one that is not.
@@ -76,16 +76,21 @@ impl Questions {
     }
 }
 
-struct Row<'a> {
-    what: String,
-    target: Option<f64>,
-    image: &'a [u64],
+/// Asks a record, by its image, the arguments and the words for the answers.
+fn of_record(many: Many) -> impl Fn(&[u64], &[u64], &mut [Answer]) -> u64 {
+    move |image, args, out| port::record_ask(many, image, args, out)
+}
+
+pub struct Row<'a> {
+    pub what: String,
+    pub target: Option<f64>,
+    pub image: &'a [u64],
 }
 
 impl Row<'_> {
-    /// Each side writes its answers to words that it is lent; the port opens the image first, which is taken off.
     fn asked(&self, table: &mut Table, args: &[u64], many: Many, one: impl Fn(u64) -> Option<u64>) {
-        self.asked_as(table, args.len().into(), args, many, one, |value| value);
+        let ask = of_record(many);
+        self.asked_as(table, args.len().into(), args, ask, one, |value| value);
     }
 
     /// Among equal times the Rust may find another than the first: the time at the index is compared.
@@ -97,16 +102,18 @@ impl Row<'_> {
         one: impl Fn(u64) -> Option<u64>,
     ) {
         let time = |k| times[k as usize];
-        self.asked_as(table, args.len().into(), args, port::BINSEARCHES, one, time);
+        let ask = of_record(port::BINSEARCHES);
+        self.asked_as(table, args.len().into(), args, ask, one, time);
     }
 
-    /// The Rust is asked only the first questions where it takes too long. `seen` is what of an answer is compared.
-    fn asked_as(
+    /// Each side writes its answers to words that it is lent; the port opens the image first, which is taken off. The Rust is asked only the first
+    /// questions where it takes too long. `seen` is what of an answer is compared.
+    pub fn asked_as(
         &self,
         table: &mut Table,
         items: Items,
         args: &[u64],
-        many: Many,
+        ask: impl Fn(&[u64], &[u64], &mut [Answer]) -> u64,
         one: impl Fn(u64) -> Option<u64>,
         seen: impl Fn(u64) -> u64,
     ) {
@@ -117,7 +124,7 @@ impl Row<'_> {
         let mut theirs = vec![None; items.peer];
         let mut ours = vec![Answer::default(); args.len()];
         rust::record_ask(&one, few, &mut theirs);
-        port::record_ask(many, self.image, args, &mut ours);
+        ask(self.image, args, &mut ours);
         let same = |(a, b): (&Answer, &Option<u64>)| a.get().map(&seen) == b.map(&seen);
         assert!(ours.iter().zip(&theirs).all(same), "{}", self.what);
         table.row_after(
@@ -125,8 +132,8 @@ impl Row<'_> {
             items,
             self.target,
             || rust::record_ask(&one, black_box(few), &mut theirs),
-            || port::record_ask(many, black_box(self.image), args, &mut ours),
-            || port::record_ask(many, black_box(self.image), &[], &mut []),
+            || ask(black_box(self.image), args, &mut ours),
+            || ask(black_box(self.image), &[], &mut []),
         );
     }
 
@@ -189,6 +196,6 @@ impl Equal {
         };
         let rank = |v| self.ef.rank(v).map(|k| k as u64);
         let args = vec![500_000_000; 100_000];
-        row.asked_as(table, items, &args, port::RANKS, rank, |k| k);
+        row.asked_as(table, items, &args, of_record(port::RANKS), rank, |k| k);
     }
 }

@@ -2,7 +2,7 @@
 
 use sucds::bit_vectors::darray::inner::DArrayIndex;
 use sucds::bit_vectors::prelude::*;
-use sucds::bit_vectors::BitVector;
+use sucds::bit_vectors::{BitVector, SArray};
 use sucds::broadword;
 use sucds::mii_sequences::{EliasFano, EliasFanoBuilder};
 
@@ -103,6 +103,23 @@ pub fn record_build(b: EliasFanoBuilder, rank: bool) -> EliasFano {
     } else {
         ef
     }
+}
+
+/// The bits as the Rust takes them.
+pub fn bits(words: &[u64], len: usize) -> impl Iterator<Item = bool> + '_ {
+    (0..len).map(|i| words[i / 64] >> (i % 64) & 1 == 1)
+}
+
+#[inline(never)]
+pub fn from_bits(words: &[u64], len: usize) -> EliasFano {
+    EliasFano::from_bits(bits(words, len))
+        .expect("some bits are set")
+        .enable_rank()
+}
+
+#[inline(never)]
+pub fn sarray_from_bits(words: &[u64], len: usize) -> SArray {
+    SArray::from_bits(bits(words, len)).enable_rank()
 }
 
 /// Each answer goes to the lent words, as the port's do.
