@@ -132,8 +132,25 @@ fn beside(told: console_record::Told, v: Sparse) -> SparseTold {
     }
 }
 
-// What alters what is held: of the sparse vector, of the record by `from_bits`, which is of the console's bits, or by another command.
+// What alters what is held of the record: `from_bits`, which is of the console's bits, or another.
 fn altered(
+    name: &[u8],
+    r: Arguments,
+    bits: &[u64],
+    len: usize,
+    buffer: &mut [u64],
+    held: Record,
+) -> console_record::Told {
+    let told = console_sums::bits::answer(name, r, bits, len, &mut *buffer, held);
+    let reply = told.reply;
+    if output::is_known(reply) {
+        return told;
+    }
+    console_record::answer(name, r, &mut *buffer, held)
+}
+
+// What alters what is held: of the sparse vector, or of the record.
+fn held_after(
     name: &[u8],
     r: Arguments,
     bits: &[u64],
@@ -142,17 +159,12 @@ fn altered(
     held: Record,
     v: Sparse,
 ) -> SparseTold {
-    let vector = console_sarray::alter(name, r, bits, len, &mut *buffer, held, v);
-    let said = vector.reply;
-    if output::is_known(said) {
-        return vector;
-    }
-    let told = console_sums::bits::answer(name, r, bits, len, &mut *buffer, held);
+    let told = console_sarray::alter(name, r, bits, len, &mut *buffer, held, v);
     let reply = told.reply;
     if output::is_known(reply) {
-        return beside(told, v);
+        return told;
     }
-    beside(console_record::answer(name, r, &mut *buffer, held), v)
+    beside(altered(name, r, bits, len, &mut *buffer, held), v)
 }
 
 // The section Record: a question over the image, or what alters what is held.
@@ -172,7 +184,7 @@ fn of_record(
         t.at = output::reply_line(out, s.at, question);
         return t;
     }
-    after(altered(name, r, bits, s.len, buffer, held, v), out, s)
+    after(held_after(name, r, bits, s.len, buffer, held, v), out, s)
 }
 
 // `sums X..`

@@ -12,14 +12,7 @@ use elias_fano_from_bits::build::from_bits;
 use sarray::build;
 
 // Into the lent words, which are the image from then on.
-fn built(
-    bits: &[u64],
-    len: usize,
-    rank: bool,
-    sparse: bool,
-    words: &mut [u64],
-    s: Record,
-) -> Told
+fn built(bits: &[u64], len: usize, rank: bool, sparse: bool, words: &mut [u64], s: Record) -> Told
     ensures { λ t. ⌜ turnOf t (now (words .exit)) ≡ ofWhole s (bitsCall sparse (now (bits .entry)) len rank (now (words .entry))) ⌝ }
 {
     if sparse {

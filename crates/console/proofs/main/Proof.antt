@@ -12,6 +12,9 @@ abbrev μ-loop : tie.MeasureT-loop
 nothing-requires : tie.Need-nothing-requires Inv-loop μ-loop
 nothing-requires c κs = search needs
 
+nothing-requires-2 : tie.Need-nothing-requires-2 Inv-loop μ-loop
+nothing-requires-2 c κs = search needs
+
 loop-holds : tie.Need-loop-holds Inv-loop μ-loop
 loop-holds c = search needs
 
@@ -40,6 +43,7 @@ main-spec =
     Inv-loop
     μ-loop
     nothing-requires
+    nothing-requires-2
     loop-holds
     turn-requires
     sub-turns
