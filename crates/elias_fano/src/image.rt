@@ -25,12 +25,13 @@ pub struct Parts {
     pub universe: u64,
     pub num_vals: u64,
     pub num_pushed: u64,
-    pub rank: bool,
     pub low_len: usize,
     pub high_len: usize,
     pub low_at: usize,
     pub ones_at: usize,
     pub zeros_at: usize,
+    // Last, since a copy of what follows it would part words in two.
+    pub rank: bool,
 }
 
 // The parts of an accepted image.

@@ -22,6 +22,7 @@ use broadword::debruijn64_table;
 use broadword::select_in_byte_table;
 use elias_fano::image::Opened;
 use elias_fano::image::Parts;
+use elias_fano::image::no_parts;
 use errors::number;
 use sarray::build::from_bits;
 use sarray::queries::access;
@@ -175,7 +176,8 @@ fn answer_fitting(image: &[u64], p: Parts, kind: SparseKind, args: &[u64], out: 
     count
 }
 
-// The same of any words: 7 alters none of `out`.
+// The same of any words: 7 alters none of `out`. No words, which have no parts to find, are apart: so the parts of an image stay in memory for all its
+// questions, and are not put together again for each.
 fn answer_many(
     image: &[u64],
     len: usize,
@@ -186,6 +188,13 @@ fn answer_many(
 ) -> EfAnswer
     ensures { λ r. ⌜ ((r ≡ efAnswer (manySparse len rank (now (image .entry)) (sparseQuestionOf kind) (now (args .entry)) (now (out .entry)) .answer)) × (now (out .exit) ≡ manySparse len rank (now (image .entry)) (sparseQuestionOf kind) (now (args .entry)) (now (out .entry)) .words)) ⌝ }
 {
+    if image.len() == 0 {
+        let p = no_parts(len as u64, rank);
+        return EfAnswer {
+            kind: EF_VALUE,
+            value: answer_fitting(image, p, kind, args, &mut *out) as u64,
+        };
+    }
     match open(image, len, rank) {
         Opened::Image(p) => EfAnswer {
             kind: EF_VALUE,

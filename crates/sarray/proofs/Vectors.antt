@@ -175,6 +175,12 @@ module _ (i : List ℕ) (len : ℕ) (c : Bool) where
     unfolding sparseOpen sparseQuery
     query-refused x e q = refusal-by (isVector len c i) (numberOf x) (vectorParts len c i) (sparseAsk len c (times i) q) (sym (ap ofOpened e) ∙ er)
 
+pub open-zeros : (i : List ℕ) (len : ℕ) (c : Bool) → length i ≡ 0 → (p : Parts) → p ≡ noParts len c → OpenVector i p
+open-zeros i len c e p ep = record {
+  ok = zeros-are (p .universe) (p .rank) i e;
+  parts = ep ∙ sym (ap₂ (λ (n : ℕ) (b : Bool). vectorParts n b i) (ap (λ (q : Parts). q .universe) ep) (ap (λ (q : Parts). q .rank) ep) ∙ no-parts len c i e);
+}
+
 module _ (i : List ℕ) (p : Parts) (o : OpenVector i p) where
   -- one with a one has an image
   pub with-image : (p .«num_pushed» ≡ 0 → ⊥) → (accepted i ≡ true) × (p ≡ partsOf i)
