@@ -79,8 +79,8 @@ abbrev pub partsOf : List ℕ → Parts
 partsOf i = partsBy (universe i) (declared i) (pushed i) (ranked i) (getD i 4 0)
 
 -- those of no words
-abbrev pub noParts : ℕ → Bool → Parts
-noParts u c = record { universe = u; «num_vals» = 0; «num_pushed» = 0; rank = c; «low_len» = 0; «high_len» = 0; «low_at» = 0; «ones_at» = 0; «zeros_at» = 0 }
+abbrev pub noParts : Parts
+noParts = record { universe = 0; «num_vals» = 0; «num_pushed» = 0; rank = false; «low_len» = 0; «high_len» = 0; «low_at» = 0; «ones_at» = 0; «zeros_at» = 0 }
 
 -- ---- the cases of each answer, in document 01's terms
 

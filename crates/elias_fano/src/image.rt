@@ -90,20 +90,20 @@ fn parts_of(universe: u64, num_vals: u64, num_pushed: u64, rank: bool, overflow:
     }
 }
 
-// The parts of no words: for an empty list of sums, or a vector of zeros with so many bits and such a choice.
-pub fn no_parts(universe: u64, rank: bool) -> Parts
-    ensures { λ r. ⌜ r ≡ noParts universe rank ⌝ }
+// The parts of no words.
+pub fn no_parts() -> Parts
+    ensures { λ r. ⌜ r ≡ noParts ⌝ }
 {
     Parts {
-        universe,
+        universe: 0,
         num_vals: 0,
         num_pushed: 0,
-        rank,
         low_len: 0,
         high_len: 0,
         low_at: 0,
         ones_at: 0,
         zeros_at: 0,
+        rank: false,
     }
 }
 

@@ -15,11 +15,15 @@ use Rattle.bit_words.proofs.Packed.{set-two}
 use Rattle.elias_fano.specs.declared.image.Opened.{Opened}
 use Rattle.elias_fano.specs.declared.image.Opened.the-variants as opened
 use Rattle.elias_fano.specs.declared.image.Parts.{Parts}
-use Rattle.elias_fano.specs.Accept.{accepted, Opening, parts, unopened, partsOf, ofOpened, openOf, times}
+use Rattle.elias_fano.specs.Accept.{accepted, parts, unopened, partsOf, ofOpened, openOf, times}
 use Rattle.elias_fano.specs.Ask.{asked, query}
 use Rattle.elias_fano.proofs.Answers as answers
 use Rattle.sarray.specs.Ask.{isVector, sparseAsk, sparseQuery}
-use Rattle.sarray.specs.Opened.{vectorParts, sparseOpen, OpenVector}
+use Rattle.sarray.specs.declared.vector.SArray.{SArray}
+use Rattle.sarray.specs.declared.vector.Vector.{Vector}
+use Rattle.sarray.specs.declared.vector.Vector.the-variants as found
+use Rattle.sarray.specs.Opened as sparse
+use Rattle.sarray.specs.Opened.{vectorOf, vector, ofVector, sparseOpen, OpenVector}
 use Rattle.ffi.specs.declared.EfAnswer.{EfAnswer}
 use Rattle.ffi.specs.declared.many.Kind.{Kind}
 use Rattle.ffi.specs.declared.sparse.SparseKind.{SparseKind}
@@ -32,11 +36,11 @@ pub one-told : (i : List ℕ) → accepted i ≡ true → (k c : Kind) (x : ℕ)
 one-told i ok k c x r a h e ek =
     h ∙ ap efAnswer (answers.query-opened i a (questionOf c x) ok e) ∙ ap (λ (y : Kind). efAnswer (query i (questionOf y x))) (sym ek)
 
-pub one-sparse : (i : List ℕ) (p : Parts) → OpenVector i p → (k c : SparseKind) (x : ℕ) (r : EfAnswer) (a : Answer) → r ≡ efAnswer a → a ≡ sparseAsk (p .universe) (p .rank) (times i) (sparseQuestionOf c x) → k ≡ c → r ≡ efAnswer (sparseQuery (p .universe) (p .rank) i (sparseQuestionOf k x))
+pub one-sparse : (i : List ℕ) (v : SArray) → OpenVector i v → (k c : SparseKind) (x : ℕ) (r : EfAnswer) (a : Answer) → r ≡ efAnswer a → a ≡ sparseAsk (v .«num_bits») (v .«has_rank») (times i) (sparseQuestionOf c x) → k ≡ c → r ≡ efAnswer (sparseQuery (v .«num_bits») (v .«has_rank») i (sparseQuestionOf k x))
 unfolding sparseQuery
-one-sparse i p o k c x r a h e ek =
-    h ∙ ap efAnswer (e ∙ sym (ap (λ (b : Bool). cond b (sparseAsk (p .universe) (p .rank) (times i) (sparseQuestionOf c x)) (refused 7)) (o .ok)))
-    ∙ ap (λ (y : SparseKind). efAnswer (sparseQuery (p .universe) (p .rank) i (sparseQuestionOf y x))) (sym ek)
+one-sparse i v o k c x r a h e ek =
+    h ∙ ap efAnswer (e ∙ sym (ap (λ (b : Bool). cond b (sparseAsk (v .«num_bits») (v .«has_rank») (times i) (sparseQuestionOf c x)) (refused 7)) (o .ok)))
+    ∙ ap (λ (y : SparseKind). efAnswer (sparseQuery (v .«num_bits») (v .«has_rank») i (sparseQuestionOf y x))) (sym ek)
 
 pub two-stored : (l : List ℕ) (j a b : ℕ) → j + 1 < length l → set (set l j a) (j + 1) b ≡ take j l ++ a ∷ b ∷ drop (j + 2) l
 two-stored l j a b h =
@@ -121,21 +125,25 @@ module _ (ok : Bool) (f : ℕ → Answer) (xs d : List ℕ) where
       ap (leaves (value n)) ew ∙ ap (λ (y : ℕ). leaves (value y) (answered f y xs d)) en
       ∙ sym (ap (λ (b : Bool). cond b (leaves (value (both xs d)) (answered f (both xs d) xs d)) (leaves (refused 7) d)) e)
 
-  refused-by : (b : Bool) (k : ℕ) (p : Parts) (o : Outcome) → unopened k ≡ cond b (parts p) (unopened 7) → leaves (refused k) d ≡ cond b o (leaves (refused 7) d)
-  refused-by true k p o e = let z : _≡_ {A = ℕ} 0 1 = cc in absurd (omega arith)
-  refused-by false k p o e = let h : k ≡ 7 = cc in ap (λ (y : ℕ). leaves (refused y) d) h
-
-  pub many-refused : (r : Opened) (p : Parts) (x : Refusal) (k : ℕ) → ofOpened r ≡ cond ok (parts p) (unopened 7) → r ≡ opened.Refused x → k ≡ numberOf x → leaves (refused k) d ≡ manyIf ok f xs d
+  pub many-refused : (k : ℕ) → ok ≡ false → k ≡ 7 → leaves (refused k) d ≡ manyIf ok f xs d
   unfolding manyIf
-  many-refused r p x k er e ek =
+  many-refused k e ek =
       ap (λ (y : ℕ). leaves (refused y) d) ek
-      ∙ refused-by ok (numberOf x) p (leaves (value (both xs d)) (answered f (both xs d) xs d)) (sym (ap ofOpened e) ∙ er)
+      ∙ sym (ap (λ (b : Bool). cond b (leaves (value (both xs d)) (answered f (both xs d) xs d)) (leaves (refused 7) d)) e)
 
--- what opening says is a choice between the parts and 7
-pub by-opening : (i : List ℕ) {a : Opening} → a ≡ openOf i → a ≡ cond (accepted i) (parts (partsOf i)) (unopened 7)
+-- what is not opened is refused with 7
+pub record-refused : (i : List ℕ) (r : Opened) (x : Refusal) → ofOpened r ≡ openOf i → r ≡ opened.Refused x → (accepted i ≡ false) × (numberOf x ≡ 7)
 unfolding openOf
-by-opening i e = e
+record-refused i r x er e = by (accepted i) (partsOf i) (sym (ap ofOpened e) ∙ er)
+  where
+    by : (b : Bool) (p : Parts) → unopened (numberOf x) ≡ cond b (parts p) (unopened 7) → (b ≡ false) × (numberOf x ≡ 7)
+    by true p q = let z : _≡_ {A = ℕ} 0 1 = cc in absurd (omega arith)
+    by false p q = (refl, cc)
 
-pub by-sparse : (len : ℕ) (c : Bool) (i : List ℕ) {a : Opening} → a ≡ sparseOpen len c i → a ≡ cond (isVector len c i) (parts (vectorParts len c i)) (unopened 7)
+pub vector-refused : (len : ℕ) (c : Bool) (i : List ℕ) (r : Vector) (x : Refusal) → ofVector r ≡ sparseOpen len c i → r ≡ found.Refused x → (isVector len c i ≡ false) × (numberOf x ≡ 7)
 unfolding sparseOpen
-by-sparse len c i e = e
+vector-refused len c i r x er e = by (isVector len c i) (vectorOf len c i) (sym (ap ofVector e) ∙ er)
+  where
+    by : (b : Bool) (v : SArray) → sparse.unopened (numberOf x) ≡ cond b (vector v) (sparse.unopened 7) → (b ≡ false) × (numberOf x ≡ 7)
+    by true v q = let z : _≡_ {A = ℕ} 0 1 = cc in absurd (omega arith)
+    by false v q = (refl, cc)

@@ -22,7 +22,11 @@ use Rattle.elias_fano_queries.specs.declared.header.Truth.{Truth}
 use Rattle.elias_fano_queries.specs.declared.header.Truth.the-variants as truth
 use Rattle.elias_fano_queries.specs.Truth.{ofTruth}
 use Rattle.broadword.specs.Fields.{flag}
-use Rattle.ffi.specs.Answers.{ofRefusal, efAnswer, efOpened}
+use Rattle.sarray.specs.declared.vector.SArray.{SArray}
+use Rattle.sarray.specs.declared.vector.Vector.{Vector}
+use Rattle.sarray.specs.declared.vector.Vector.the-variants as found
+use Rattle.sarray.specs.Opened.{SparseOpening, ofVector}
+use Rattle.ffi.specs.Answers.{ofRefusal, efAnswer, efOpened, efSparse}
 
 -- no refusal has the number 0
 number-some : (e : Refusal) → eqb (numberOf e) 0 ≡ false
@@ -77,6 +81,13 @@ module _ (r : Opened) (a : Opening) (er : ofOpened r ≡ a) where
 
   pub refusal-told : (e : Refusal) (k : ℕ) → r ≡ opened.Refused e → k ≡ numberOf e → k ≡ efOpened a
   refusal-told e k q h = h ∙ ap efOpened (sym (ap ofOpened q) ∙ er)
+
+module _ (r : Vector) (a : SparseOpening) (er : ofVector r ≡ a) where
+  pub vector-told : (v : SArray) → r ≡ found.Opened v → 0 ≡ efSparse a
+  vector-told v e = ap efSparse (sym (ap ofVector e) ∙ er)
+
+  pub vector-refused : (e : Refusal) (k : ℕ) → r ≡ found.Refused e → k ≡ numberOf e → k ≡ efSparse a
+  vector-refused e k q h = h ∙ ap efSparse (sym (ap ofVector q) ∙ er)
 
 -- ---- a question
 

@@ -9,6 +9,8 @@ use Rattle.elias_fano.specs.declared.builder.Builder.{Builder}
 use Rattle.elias_fano.specs.declared.builder.Pushed.{Pushed}
 use Rattle.elias_fano.specs.Accept.{Opening, parts, unopened}
 use Rattle.elias_fano.specs.Made.{made, builder, ofPushed}
+use Rattle.sarray.specs.Opened as sparse
+use Rattle.sarray.specs.Opened.{SparseOpening, vector}
 use Rattle.ffi.specs.declared.EfAnswer.{EfAnswer}
 use Rattle.ffi.specs.declared.EfBuilder.{EfBuilder}
 use Rattle.ffi.specs.declared.EfPushed.{EfPushed}
@@ -31,6 +33,10 @@ efAnswer done = record { kind = 3; value = 0 }
 abbrev pub efOpened : Opening → ℕ
 efOpened (parts p) = 0
 efOpened (unopened k) = k
+
+abbrev pub efSparse : SparseOpening → ℕ
+efSparse (vector v) = 0
+efSparse (sparse.unopened k) = k
 
 -- a start or a reading, told
 abbrev pub Told : EfBuilder → Pushed → EfPushed → Type 0

@@ -7,7 +7,7 @@ ghost use Rattle.broadword.specs.Places.{SelectInByte, Debruijn64};
 ghost use Rattle.sarray.specs.Ask.{Access, Rank1, Select1, Predecessor1, Successor1, sparseQuery};
 ghost use Rattle.sarray.specs.Build.{sparseFromBits};
 ghost use Rattle.sarray.specs.Opened.{sparseOpen, OpenVector};
-ghost use Rattle.ffi.specs.Answers.{efAnswer, efOpened};
+ghost use Rattle.ffi.specs.Answers.{efAnswer, efSparse};
 ghost use Rattle.ffi.specs.Many.{sparseQuestionOf, answered, manySparse};
 use crate::EF_REFUSED;
 use crate::EF_VALUE;
@@ -20,9 +20,6 @@ use crate::tell::tell_count;
 use crate::tell::tell_place;
 use broadword::debruijn64_table;
 use broadword::select_in_byte_table;
-use elias_fano::image::Opened;
-use elias_fano::image::Parts;
-use elias_fano::image::no_parts;
 use errors::number;
 use sarray::build::from_bits;
 use sarray::queries::access;
@@ -35,6 +32,8 @@ use sarray::queries::select1;
 use sarray::queries::select1_opened;
 use sarray::queries::successor1;
 use sarray::queries::successor1_opened;
+use sarray::vector::SArray;
+use sarray::vector::Vector;
 use sarray::vector::open;
 
 // Which question is asked of each argument.
@@ -62,11 +61,11 @@ pub extern "C" fn ef_sarray_from_bits(
 // Decides whether an image is one of a vector of so many bits with such a choice: 0, or the refusal's number.
 #[no_mangle]
 pub extern "C" fn ef_sarray_open(image: &[u64], len: usize, rank: bool) -> u64
-    ensures { λ r. ⌜ r ≡ efOpened (sparseOpen len rank (now (image .entry))) ⌝ }
+    ensures { λ r. ⌜ r ≡ efSparse (sparseOpen len rank (now (image .entry))) ⌝ }
 {
     match open(image, len, rank) {
-        Opened::Image(_p) => 0,
-        Opened::Refused(e) => number(e),
+        Vector::Opened(_v) => 0,
+        Vector::Refused(e) => number(e),
     }
 }
 
@@ -123,29 +122,29 @@ pub extern "C" fn ef_sarray_successor1(
 // The answer to one question, of an opened vector.
 fn answer_opened(
     image: &[u64],
-    p: Parts,
+    v: SArray,
     kind: SparseKind,
     arg: u64,
     table: &[u8; 2048],
     places: &[u8; 64],
 ) -> EfAnswer
-    requires { ⌜ (OpenVector (now image) p × SelectInByte (now table) × Debruijn64 (now places)) ⌝ }
-    ensures { λ r. ⌜ r ≡ efAnswer (sparseQuery (p .universe) (p .rank) (now (image .entry)) (sparseQuestionOf kind arg)) ⌝ }
+    requires { ⌜ (OpenVector (now image) v × SelectInByte (now table) × Debruijn64 (now places)) ⌝ }
+    ensures { λ r. ⌜ r ≡ efAnswer (sparseQuery (v .«num_bits») (v .«has_rank») (now (image .entry)) (sparseQuestionOf kind arg)) ⌝ }
 {
     let at = arg as usize;
     match kind {
-        SparseKind::Access => tell_bit(access_opened(image, p, at, table, places)),
-        SparseKind::Rank1 => tell_count(rank1_opened(image, p, at, table)),
-        SparseKind::Select1 => tell_place(select1_opened(image, p, at, table)),
-        SparseKind::Predecessor1 => tell_place(predecessor1_opened(image, p, at, table)),
-        SparseKind::Successor1 => tell_place(successor1_opened(image, p, at, table, places)),
+        SparseKind::Access => tell_bit(access_opened(image, v, at, table, places)),
+        SparseKind::Rank1 => tell_count(rank1_opened(image, v, at, table)),
+        SparseKind::Select1 => tell_place(select1_opened(image, v, at, table)),
+        SparseKind::Predecessor1 => tell_place(predecessor1_opened(image, v, at, table)),
+        SparseKind::Successor1 => tell_place(successor1_opened(image, v, at, table, places)),
     }
 }
 
 // The answers to the first `count` arguments, of an opened vector; the later words stay.
 fn answer_all(
     image: &[u64],
-    p: Parts,
+    v: SArray,
     kind: SparseKind,
     args: &[u64],
     count: usize,
@@ -153,31 +152,36 @@ fn answer_all(
     table: &[u8; 2048],
     places: &[u8; 64],
 )
-    requires { ⌜ (OpenVector (now image) p × SelectInByte (now table) × Debruijn64 (now places) × (count ≤ length (now args)) × (2 * count ≤ length (now out))) ⌝ }
-    ensures { λ _. ⌜ now (out .exit) ≡ answered (λ x. sparseQuery (p .universe) (p .rank) (now (image .entry)) (sparseQuestionOf kind x)) count (now (args .entry)) (now (out .entry)) ⌝ }
+    requires { ⌜ (OpenVector (now image) v × SelectInByte (now table) × Debruijn64 (now places) × (count ≤ length (now args)) × (2 * count ≤ length (now out))) ⌝ }
+    ensures { λ _. ⌜ now (out .exit) ≡ answered (λ x. sparseQuery (v .«num_bits») (v .«has_rank») (now (image .entry)) (sparseQuestionOf kind x)) count (now (args .entry)) (now (out .entry)) ⌝ }
 {
     let mut i = 0;
     while i < count {
-        let a = answer_opened(image, p, kind, args[i], table, places);
+        let a = answer_opened(image, v, kind, args[i], table, places);
         put(&mut *out, i, a);
         i += 1;
     }
 }
 
 // As many answers as both arrays hold, of an opened vector, and how many. The tables are made here.
-fn answer_fitting(image: &[u64], p: Parts, kind: SparseKind, args: &[u64], out: &mut [u64]) -> usize
-    requires { ⌜ OpenVector (now image) p ⌝ }
-    ensures { λ r. ⌜ leaves (value r) (now (out .exit)) ≡ manySparse (p .universe) (p .rank) (now (image .entry)) (sparseQuestionOf kind) (now (args .entry)) (now (out .entry)) ⌝ }
+fn answer_fitting(
+    image: &[u64],
+    v: SArray,
+    kind: SparseKind,
+    args: &[u64],
+    out: &mut [u64],
+) -> usize
+    requires { ⌜ OpenVector (now image) v ⌝ }
+    ensures { λ r. ⌜ leaves (value r) (now (out .exit)) ≡ manySparse (v .«num_bits») (v .«has_rank») (now (image .entry)) (sparseQuestionOf kind) (now (args .entry)) (now (out .entry)) ⌝ }
 {
     let table = select_in_byte_table();
     let places = debruijn64_table();
     let count = lesser(args.len(), out.len() / 2);
-    answer_all(image, p, kind, args, count, &mut *out, &table, &places);
+    answer_all(image, v, kind, args, count, &mut *out, &table, &places);
     count
 }
 
-// The same of any words: 7 alters none of `out`. No words, which have no parts to find, are apart: so the parts of an image stay in memory for all its
-// questions, and are not put together again for each.
+// The same of any words: 7 alters none of `out`.
 fn answer_many(
     image: &[u64],
     len: usize,
@@ -188,19 +192,12 @@ fn answer_many(
 ) -> EfAnswer
     ensures { λ r. ⌜ ((r ≡ efAnswer (manySparse len rank (now (image .entry)) (sparseQuestionOf kind) (now (args .entry)) (now (out .entry)) .answer)) × (now (out .exit) ≡ manySparse len rank (now (image .entry)) (sparseQuestionOf kind) (now (args .entry)) (now (out .entry)) .words)) ⌝ }
 {
-    if image.len() == 0 {
-        let p = no_parts(len as u64, rank);
-        return EfAnswer {
-            kind: EF_VALUE,
-            value: answer_fitting(image, p, kind, args, &mut *out) as u64,
-        };
-    }
     match open(image, len, rank) {
-        Opened::Image(p) => EfAnswer {
+        Vector::Opened(v) => EfAnswer {
             kind: EF_VALUE,
-            value: answer_fitting(image, p, kind, args, &mut *out) as u64,
+            value: answer_fitting(image, v, kind, args, &mut *out) as u64,
         },
-        Opened::Refused(e) => EfAnswer {
+        Vector::Refused(e) => EfAnswer {
             kind: EF_REFUSED,
             value: number(e),
         },

@@ -59,12 +59,12 @@ module _ (i : List ℕ) where
   unfolding askable
   askable-some h = ap (λ (b : Bool). b || accepted i) (ne-eqb (length i) 0 h)
 
-  pub starts-none : length i ≡ 0 → (k : ℕ) (c : ItemPlace) → c .parts ≡ noParts 0 false → c .walk .values .number ≡ k → StartsItems i k (started.ItemPlace c)
-  starts-none e k c z n = (askable-none e, over-none e (c .parts) (c .walk) (ap (λ (p : Parts). p .«num_pushed») z), n, z ∙ sym (ap (λ (b : Bool). cond b (noParts 0 false) (partsOf i)) (eq-eqb (length i) 0 e)))
+  pub starts-none : length i ≡ 0 → (k : ℕ) (c : ItemPlace) → c .parts ≡ noParts → c .walk .values .number ≡ k → StartsItems i k (started.ItemPlace c)
+  starts-none e k c z n = (askable-none e, over-none e (c .parts) (c .walk) (ap (λ (p : Parts). p .«num_pushed») z), n, z ∙ sym (ap (λ (b : Bool). cond b noParts (partsOf i)) (eq-eqb (length i) 0 e)))
 
   module _ (some : length i ≡ 0 → ⊥) (r : Opened) (er : ofOpened r ≡ openOf i) where
     pub starts-opened : accepted i ≡ true → (k : ℕ) (c : ItemPlace) → ItemsOver i (c .parts) (c .walk) → c .walk .values .number ≡ k → c .parts ≡ partsOf i → StartsItems i k (started.ItemPlace c)
-    starts-opened ok k c o n e = (askable-some some ∙ ok, o, n, e ∙ sym (ap (λ (b : Bool). cond b (noParts 0 false) (partsOf i)) (ne-eqb (length i) 0 some)))
+    starts-opened ok k c o n e = (askable-some some ∙ ok, o, n, e ∙ sym (ap (λ (b : Bool). cond b noParts (partsOf i)) (ne-eqb (length i) 0 some)))
 
     refused-by : (b : Bool) (n : ℕ) (q : Parts) → unopened n ≡ cond b (parts q) (unopened 7) → (b ≡ false) × (n ≡ 7)
     refused-by true n q e = let z : _≡_ {A = ℕ} 0 1 = cc in absurd (omega arith)

@@ -50,7 +50,7 @@ pub record ItemsOver (i : List ℕ) (p : Parts) (w : ItemWalk) : Type 0 where
   pub ahead : w .values .number < p .«num_pushed» → ItemAhead i p w
 
 abbrev pub StartsItems : List ℕ → ℕ → ItemsStart → Type 0
-StartsItems i k (started.ItemPlace c) = (askable i ≡ true) × ItemsOver i (c .parts) (c .walk) × (c .walk .values .number ≡ k) × (c .parts ≡ cond (eqb (length i) 0) (noParts 0 false) (partsOf i))
+StartsItems i k (started.ItemPlace c) = (askable i ≡ true) × ItemsOver i (c .parts) (c .walk) × (c .walk .values .number ≡ k) × (c .parts ≡ cond (eqb (length i) 0) noParts (partsOf i))
 StartsItems i k (started.Refused e) = (askable i ≡ false) × (numberOf e ≡ 7)
 
 -- what a step leaves: its answer, and the number of the next item

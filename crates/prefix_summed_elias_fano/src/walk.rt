@@ -2,7 +2,7 @@
 // select. Its state is a value beside the image, which each step takes again. `start_items` decides 7 once; no words have no items.
 //
 // `next_item` and `take_item` are inner: they demand the parts of the image and a walk over it, as `start_items` and each step leave it.
-ghost use mathlib.Core.Bool.{true, false};
+ghost use mathlib.Core.Bool.{true};
 ghost use mathlib.Core.Path.{_≡_};
 ghost use mathlib.Core.List.{_∷_, _++_};
 ghost use Prim.Native.Nat.{suc, _-_, _≤_, _<_};
@@ -88,10 +88,10 @@ fn begin_items(image: &[u64], p: Parts, k: usize) -> ItemPlace
 
 // The place k of no words.
 fn begin_none(k: usize) -> ItemPlace
-    ensures { λ r. ⌜ ((r .parts ≡ noParts 0 false) × (r .walk .values .number ≡ k)) ⌝ }
+    ensures { λ r. ⌜ ((r .parts ≡ noParts) × (r .walk .values .number ≡ k)) ⌝ }
 {
     ItemPlace {
-        parts: no_parts(0, false),
+        parts: no_parts(),
         walk: ItemWalk {
             before: 0,
             values: ended(k),

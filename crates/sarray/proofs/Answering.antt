@@ -13,15 +13,16 @@ use Rattle.errors.specs.Answer.{Answer, value, none, done, refused}
 use Rattle.broadword.specs.Fields.{flag}
 use Rattle.broadword.specs.Places.{SelectInByte}
 use Rattle.elias_fano_words.proofs.Rising.{rising-lt}
-use Rattle.elias_fano.specs.declared.image.Parts.{Parts}
 use Rattle.elias_fano.specs.Accept.{universe, ranked, times, accepted, partsOf}
 use Rattle.elias_fano.specs.Ask.{Predecessor, Successor, Binsearch, nth, below, greatest, smallest, firstIndex, searched, ask, asked}
 use Rattle.elias_fano.specs.Opening.{Open}
 use Rattle.elias_fano.proofs.Answers.{refused-value}
+use Rattle.elias_fano.proofs.Selecting as selecting
 use Rattle.elias_fano_queries.proofs.Answering.{yes-of, no-of}
 use Rattle.elias_fano_queries.proofs.Below as below-law
 use Rattle.elias_fano_queries.proofs.Opened as opened
 use Rattle.sarray.specs.Ask.{Access, Rank1, Select1, Predecessor1, Successor1, member, sparseAsk}
+use Rattle.sarray.specs.declared.vector.SArray.{SArray}
 use Rattle.sarray.specs.Opened.{OpenVector}
 use Rattle.sarray.proofs.Vectors as vectors
 
@@ -69,29 +70,38 @@ whole T v h =
 
 -- ---- the questions
 
-module _ (i : List ℕ) (p : Parts) (o : OpenVector i p) where
+module _ (i : List ℕ) (v : SArray) (o : OpenVector i v) where
   abbrev u : ℕ
-  u = p .universe
+  u = v .«num_bits»
 
   abbrev c : Bool
-  c = p .rank
+  c = v .«has_rank»
 
   abbrev T : List ℕ
   T = times i
 
   -- without a one there is no time
-  no-times : p .«num_pushed» ≡ 0 → T ≡ []
-  no-times e = nothing-in T (sym (vectors.many i p o) ∙ e)
+  no-times : v .«num_ones» ≡ 0 → T ≡ []
+  no-times e = nothing-in T (sym (vectors.many i v o) ∙ e)
 
-  module _ (some : p .«num_pushed» ≡ 0 → ⊥) where
+  module _ (some : v .«num_ones» ≡ 0 → ⊥) where
     ok : accepted i ≡ true
-    ok = vectors.with-image i p o some .0
+    ok = vectors.image-ok i v o some
 
-    is-parts : p ≡ partsOf i
-    is-parts = vectors.with-image i p o some .1
+    is-parts : v .parts ≡ partsOf i
+    is-parts = vectors.parts-are i v o some
 
-    pub is-open : (t : List ℕ) → SelectInByte t → Open i p t
+    pub is-open : (t : List ℕ) → SelectInByte t → Open i (v .parts) t
     is-open t rule = record { ok = ok; parts = is-parts; rule = rule }
+
+    pub ones-are : v .«num_ones» ≡ v .parts .«num_pushed»
+    ones-are = vectors.many i v o ∙ sym (selecting.pushed-is i ok (v .parts) is-parts)
+
+    pub bits-are : v .«num_bits» ≡ v .parts .universe
+    bits-are = sym (opened.universe-is i ok (v .parts) is-parts ∙ vectors.long i v o some)
+
+    pub choice-is : v .«has_rank» ≡ v .parts .rank
+    choice-is = sym (opened.rank-is i ok (v .parts) is-parts ∙ vectors.choice i v o some)
 
   -- ---- access
 
@@ -105,14 +115,14 @@ module _ (i : List ℕ) (p : Parts) (o : OpenVector i p) where
       unfolding sparseAsk
       within = simp (lt-leb u x h)
 
-      pub access-zeros : p .«num_pushed» ≡ 0 → value 0 ≡ sparseAsk u c T (Access x)
+      pub access-zeros : v .«num_ones» ≡ 0 → value 0 ≡ sparseAsk u c T (Access x)
       unfolding member
       access-zeros e = sym (within ∙ ap (λ (S : List ℕ). value (flag (member x S))) (no-times e))
 
-      module _ (some : p .«num_pushed» ≡ 0 → ⊥) where
+      module _ (some : v .«num_ones» ≡ 0 → ⊥) where
         search-is : asked i (Binsearch x) ≡ firstIndex x 0 T
         unfolding ask
-        search-is = whole T x (λ e. some (vectors.many i p o ∙ e))
+        search-is = whole T x (λ e. some (vectors.many i v o ∙ e))
 
         pub access-by : (a : Answer) → a ≡ asked i (Binsearch x) → value (flag (is-value a)) ≡ sparseAsk u c T (Access x)
         access-by a e = sym (within ∙ ap (λ (b : Bool). value (flag b)) (sym (first-in x 0 T) ∙ ap is-value (sym (e ∙ search-is))))
@@ -146,14 +156,14 @@ module _ (i : List ℕ) (p : Parts) (o : OpenVector i p) where
     unfolding sparseAsk
     rank-is g k e = ap value e ∙ sym (simp (h, le-ltb u x g))
 
-    pub rank-zeros : x ≤ u → p .«num_pushed» ≡ 0 → value 0 ≡ sparseAsk u c T (Rank1 x)
+    pub rank-zeros : x ≤ u → v .«num_ones» ≡ 0 → value 0 ≡ sparseAsk u c T (Rank1 x)
     rank-zeros g e = rank-is g 0 (sym (below-law.below-none x) ∙ ap (below x) (sym (no-times e)))
 
-    pub rank-end : x ≤ u → (p .«num_pushed» ≡ 0 → ⊥) → x ≡ u → value (p .«num_pushed») ≡ sparseAsk u c T (Rank1 x)
+    pub rank-end : x ≤ u → (v .«num_ones» ≡ 0 → ⊥) → x ≡ u → value (v .«num_ones») ≡ sparseAsk u c T (Rank1 x)
     rank-end g some e =
-        rank-is g (p .«num_pushed») (vectors.many i p o ∙ sym (below-law.below-is (universe i) x T (opened.rises i (ok some)) (length T) (le-refl (length T)) (λ (q : 0 < length T).
+        rank-is g (v .«num_ones») (vectors.many i v o ∙ sym (below-law.below-is (universe i) x T (opened.rises i (ok some)) (length T) (le-refl (length T)) (λ (q : 0 < length T).
         let m = rising-lt (universe i) T (length T - 1) (opened.rises i (ok some)) (omega arith) in
-        let z = opened.universe-is i (ok some) p (is-parts some) in
+        let z = vectors.long i v o some in
         omega arith)
         (λ q. absurd (omega arith))))
 
@@ -166,21 +176,21 @@ module _ (i : List ℕ) (p : Parts) (o : OpenVector i p) where
     successor-past g = sym (simp (h, le-leb u x g))
 
     module _ (g : x < u) where
-      pub predecessor-zeros : p .«num_pushed» ≡ 0 → none ≡ sparseAsk u c T (Predecessor1 x)
+      pub predecessor-zeros : v .«num_ones» ≡ 0 → none ≡ sparseAsk u c T (Predecessor1 x)
       unfolding sparseAsk greatest
       predecessor-zeros e = sym (no-of (not c) (refused 8) (cond (leb u x) none (greatest x T)) h ∙ no-of (leb u x) none (greatest x T) (lt-leb u x g) ∙ ap (greatest x) (no-times e))
 
-      pub successor-zeros : p .«num_pushed» ≡ 0 → none ≡ sparseAsk u c T (Successor1 x)
+      pub successor-zeros : v .«num_ones» ≡ 0 → none ≡ sparseAsk u c T (Successor1 x)
       unfolding sparseAsk smallest
       successor-zeros e = sym (no-of (not c) (refused 8) (cond (leb u x) none (smallest x T)) h ∙ no-of (leb u x) none (smallest x T) (lt-leb u x g) ∙ ap (smallest x) (no-times e))
 
-      module _ (some : p .«num_pushed» ≡ 0 → ⊥) where
+      module _ (some : v .«num_ones» ≡ 0 → ⊥) where
         -- the record's settings
         inside : leb (universe i) x ≡ false
-        inside = lt-leb (universe i) x (subst (λ (n : ℕ). x < n) (opened.universe-is i (ok some) p (is-parts some)) g)
+        inside = lt-leb (universe i) x (subst (λ (n : ℕ). x < n) (sym (vectors.long i v o some)) g)
 
         chosen : not (ranked i) ≡ false
-        chosen = ap not (sym (opened.rank-is i (ok some) p (is-parts some))) ∙ h
+        chosen = ap not (vectors.choice i v o some) ∙ h
 
         pub predecessor-is : asked i (Predecessor x) ≡ sparseAsk u c T (Predecessor1 x)
         unfolding ask sparseAsk
@@ -193,10 +203,10 @@ module _ (i : List ℕ) (p : Parts) (o : OpenVector i p) where
   -- ---- select
 
   module _ (k : ℕ) where
-    pub select-none : p .«num_pushed» ≤ k → none ≡ sparseAsk u c T (Select1 k)
+    pub select-none : v .«num_ones» ≤ k → none ≡ sparseAsk u c T (Select1 k)
     unfolding sparseAsk nth
-    select-none h = sym (simp (le-ltb k (length T) (subst (λ (n : ℕ). n ≤ k) (vectors.many i p o) h)))
+    select-none h = sym (simp (le-ltb k (length T) (subst (λ (n : ℕ). n ≤ k) (vectors.many i v o) h)))
 
-    pub select-some : k < p .«num_pushed» → (x : ℕ) → x ≡ getD T k 0 → value x ≡ sparseAsk u c T (Select1 k)
+    pub select-some : k < v .«num_ones» → (x : ℕ) → x ≡ getD T k 0 → value x ≡ sparseAsk u c T (Select1 k)
     unfolding sparseAsk nth
-    select-some h x e = ap value e ∙ sym (simp (lt-ltb k (length T) (subst (λ (n : ℕ). k < n) (vectors.many i p o) h)))
+    select-some h x e = ap value e ∙ sym (simp (lt-ltb k (length T) (subst (λ (n : ℕ). k < n) (vectors.many i v o) h)))

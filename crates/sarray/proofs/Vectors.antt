@@ -1,5 +1,5 @@
 -- What an opened vector has: the parts of an accepted image, or no words and no times. Assumes nothing.
-use mathlib.Core.Path.{_≡_, refl, sym, ap, ap₂, _∙_}
+use mathlib.Core.Path.{_≡_, refl, sym, ap, ap₂, _∙_, subst}
 use mathlib.Core.List.{List}
 use mathlib.Core.Bool.{Bool, true, false, _&&_, _||_, cond}
 use Prim.Native.Nat.{ℕ, _≤_}
@@ -17,19 +17,26 @@ use Rattle.elias_fano_words.specs.Times.{unrepeatedIf}
 use Rattle.elias_fano.specs.declared.image.Opened.{Opened}
 use Rattle.elias_fano.specs.declared.image.Opened.the-variants as opened
 use Rattle.elias_fano.specs.declared.image.Parts.{Parts}
-use Rattle.elias_fano.specs.Accept.{universe, declared, pushed, ranked, times, accepted, acceptedIf, partsBy, partsOf, noParts, parts, unopened, ofOpened, openIf}
+use Rattle.elias_fano.specs.Accept as accept
+use Rattle.elias_fano.specs.Accept.{universe, declared, pushed, ranked, times, accepted, acceptedIf, partsBy, partsOf, noParts, ofOpened, openIf}
 use Rattle.elias_fano.proofs.Accepting.{found}
-use Rattle.elias_fano.proofs.Answers.{image-by, refused-by as refusal-by}
+use Rattle.elias_fano.proofs.Answers.{image-by}
 use Rattle.elias_fano.proofs.Images.{flag-one, no-times}
 use Rattle.elias_fano.proofs.Selecting as selecting
 use Rattle.sarray.specs.Ask.{SparseQuestion, isVector, sparseAsk, sparseQuery}
-use Rattle.sarray.specs.Opened.{vectorParts, sparseOpen, OpenVector}
+use Rattle.sarray.specs.declared.vector.SArray.{SArray}
+use Rattle.sarray.specs.declared.vector.Vector.{Vector}
+use Rattle.sarray.specs.declared.vector.Vector.the-variants as found-as
+use Rattle.sarray.specs.Opened.{vectorOf, vector, unopened, ofVector, sparseOpen, OpenVector}
 
 -- ---- words
 
 -- what the test of words asks
 abbrev fits : ℕ → Bool → List ℕ → Bool
 fits len c i = eqb (universe i) len && (eqb (getD i 3 0) (flag c) && eqb (pushed i) (declared i))
+
+abbrev sarray : ℕ → Bool → ℕ → Parts → SArray
+sarray len c n p = record { «num_bits» = len; «num_ones» = n; parts = p; «has_rank» = c }
 
 module _ (len : ℕ) (c : Bool) (i : List ℕ) where
   pub zeros-are : length i ≡ 0 → isVector len c i ≡ true
@@ -40,11 +47,17 @@ module _ (len : ℕ) (c : Bool) (i : List ℕ) where
   unfolding isVector
   words-are h = ap (λ (b : Bool). b || (acceptedIf true i && fits len c i)) (ne-eqb (length i) 0 h)
 
-  no-parts : length i ≡ 0 → vectorParts len c i ≡ noParts len c
-  no-parts e = ap (λ (b : Bool). cond b (noParts len c) (partsOf i)) (eq-eqb (length i) 0 e)
+  -- its parts
+  abbrev parts-of : Bool → Parts
+  parts-of b = cond b noParts (partsOf i)
 
-  some-parts : (length i ≡ 0 → ⊥) → vectorParts len c i ≡ partsOf i
-  some-parts h = ap (λ (b : Bool). cond b (noParts len c) (partsOf i)) (ne-eqb (length i) 0 h)
+  pub zeros-vector : length i ≡ 0 → (n : ℕ) → n ≡ 0 → (p : Parts) → p ≡ noParts → record { «num_bits» = len; «num_ones» = n; parts = p; «has_rank» = c } ≡ vectorOf len c i
+  zeros-vector e n en p ep =
+      ap₂ (λ (k : ℕ) (q : Parts). sarray len c k q) (en ∙ sym (ap length (no-times i e))) (ep ∙ sym (ap parts-of (eq-eqb (length i) 0 e)))
+
+  pub image-vector : (length i ≡ 0 → ⊥) → accepted i ≡ true → (p : Parts) → p ≡ partsOf i → record { «num_bits» = len; «num_ones» = p .«num_pushed»; parts = p; «has_rank» = c } ≡ vectorOf len c i
+  image-vector h ok p ep =
+      ap₂ (λ (k : ℕ) (q : Parts). sarray len c k q) (selecting.pushed-is i ok p ep) (ep ∙ sym (ap parts-of (ne-eqb (length i) 0 h)))
 
 -- ---- the numbers of a header
 
@@ -66,15 +79,15 @@ module _ (p : Parts) (len : ℕ) (c : Bool) where
 -- ---- opening
 
 module _ (i : List ℕ) (len : ℕ) (c : Bool) where
-  by-vector : {b : Bool} → isVector len c i ≡ b → sparseOpen len c i ≡ cond b (parts (vectorParts len c i)) (unopened 7)
+  by-vector : {b : Bool} → isVector len c i ≡ b → sparseOpen len c i ≡ cond b (vector (vectorOf len c i)) (unopened 7)
   unfolding sparseOpen
-  by-vector e = ap (λ (b : Bool). cond b (parts (vectorParts len c i)) (unopened 7)) e
+  by-vector e = ap (λ (b : Bool). cond b (vector (vectorOf len c i)) (unopened 7)) e
 
-  pub opens-zeros : length i ≡ 0 → (p : Parts) → p ≡ noParts len c → parts p ≡ sparseOpen len c i
-  opens-zeros e p ep = ap parts (ep ∙ sym (no-parts len c i e)) ∙ sym (by-vector (zeros-are len c i e))
+  pub opens-zeros : length i ≡ 0 → (p : Parts) → p ≡ noParts → vector (sarray len c 0 p) ≡ sparseOpen len c i
+  opens-zeros e p ep = ap vector (zeros-vector len c i e 0 refl p ep) ∙ sym (by-vector (zeros-are len c i e))
 
   module _ (some : length i ≡ 0 → ⊥) where
-    refused-by : (a b : Bool) (k : ℕ) (q : Parts) → unopened k ≡ cond a (parts q) (unopened 7) → (a && b) ≡ false
+    refused-by : (a b : Bool) (k : ℕ) (q : Parts) → accept.unopened k ≡ cond a (accept.parts q) (accept.unopened 7) → (a && b) ≡ false
     refused-by true b k q e = let z : _≡_ {A = ℕ} 0 1 = cc in absurd (omega arith)
     refused-by false b k q e = refl
 
@@ -114,8 +127,8 @@ module _ (i : List ℕ) (len : ℕ) (c : Bool) where
       pub opens-other : whole p len c ≡ false → unopened 7 ≡ sparseOpen len c i
       opens-other h = sym (by-vector (vector-is ∙ h))
 
-      pub opens-image : whole p len c ≡ true → parts p ≡ sparseOpen len c i
-      opens-image h = ap parts (is-open .1 ∙ sym (some-parts len c i some)) ∙ sym (by-vector (vector-is ∙ h))
+      pub opens-image : whole p len c ≡ true → vector (sarray len c (p .«num_pushed») p) ≡ sparseOpen len c i
+      opens-image h = ap vector (image-vector len c i some ok p (is-open .1)) ∙ sym (by-vector (vector-is ∙ h))
 
 -- ---- an opened vector
 
@@ -125,7 +138,7 @@ module _ (i : List ℕ) (len : ℕ) (c : Bool) where
     all : (acceptedIf true i ≡ true) × (fits len c i ≡ true)
     all = and-true (acceptedIf true i) (fits len c i) (sym (words-are len c i some) ∙ h)
 
-    pub words-ok : accepted i ≡ true
+    words-ok : accepted i ≡ true
     words-ok = and-true (unrepeatedIf true (times i)) (accepted i) (all .0) .1
 
     rest : (eqb (universe i) len ≡ true) × ((eqb (getD i 3 0) (flag c) && eqb (pushed i) (declared i)) ≡ true)
@@ -137,62 +150,56 @@ module _ (i : List ℕ) (len : ℕ) (c : Bool) where
     words-choice : ranked i ≡ c
     words-choice = ap (λ (w : ℕ). eqb w 1) (eqb-true (getD i 3 0) (flag c) (and-true (eqb (getD i 3 0) (flag c)) _ (rest .1) .0)) ∙ flag-one c
 
-  module _ (r : Opened) (er : ofOpened r ≡ sparseOpen len c i) where
-    module _ (p : Parts) (e : r ≡ opened.Image p) where
-      told : (isVector len c i ≡ true) × (p ≡ vectorParts len c i)
+  vector-by : (b : Bool) (v u : SArray) → vector v ≡ cond b (vector u) (unopened 7) → (b ≡ true) × (v ≡ u)
+  vector-by true v u e = (refl, cc)
+  vector-by false v u e = let z : _≡_ {A = ℕ} 0 1 = cc in absurd (omega arith)
+
+  refusal-by : (b : Bool) (k : ℕ) (u : SArray) (a : Answer) → unopened k ≡ cond b (vector u) (unopened 7) → refused k ≡ cond b a (refused 7)
+  refusal-by true k u a e = let z : _≡_ {A = ℕ} 0 1 = cc in absurd (omega arith)
+  refusal-by false k u a e = let d : k ≡ 7 = cc in ap refused d
+
+  module _ (r : Vector) (er : ofVector r ≡ sparseOpen len c i) where
+    module _ (v : SArray) (e : r ≡ found-as.Opened v) where
+      pub told : (isVector len c i ≡ true) × (v ≡ vectorOf len c i)
       unfolding sparseOpen
-      told = image-by (isVector len c i) p (vectorParts len c i) (sym (ap ofOpened e) ∙ er)
+      told = vector-by (isVector len c i) v (vectorOf len c i) (sym (ap ofVector e) ∙ er)
 
-      pub same-length : p .universe ≡ len
-      unfolding partsBy
-      same-length = by (ℕ-discrete (length i) 0)
-        where
-          by : Dec (length i ≡ 0) → p .universe ≡ len
-          by (yes z) = ap (λ (q : Parts). q .universe) (told .1 ∙ no-parts len c i z)
-          by (no z) = ap (λ (q : Parts). q .universe) (told .1 ∙ some-parts len c i z) ∙ words-long z (told .0)
+      pub open-vector : OpenVector i v
+      open-vector = subst (OpenVector i) (sym (told .1)) (record { ok = told .0; is = refl })
 
-      pub same-choice : p .rank ≡ c
-      unfolding partsBy
-      same-choice = by (ℕ-discrete (length i) 0)
-        where
-          by : Dec (length i ≡ 0) → p .rank ≡ c
-          by (yes z) = ap (λ (q : Parts). q .rank) (told .1 ∙ no-parts len c i z)
-          by (no z) = ap (λ (q : Parts). q .rank) (told .1 ∙ some-parts len c i z) ∙ words-choice z (told .0)
-
-      pub open-vector : OpenVector i p
-      open-vector = record {
-        ok = ap₂ (λ (n : ℕ) (b : Bool). isVector n b i) same-length same-choice ∙ told .0;
-        parts = told .1 ∙ sym (ap₂ (λ (n : ℕ) (b : Bool). vectorParts n b i) same-length same-choice);
-      }
-
-      pub query-opened : (q : SparseQuestion) (a : Answer) → a ≡ sparseAsk (p .universe) (p .rank) (times i) q → a ≡ sparseQuery len c i q
+      pub query-opened : (q : SparseQuestion) (a : Answer) → a ≡ sparseAsk (v .«num_bits») (v .«has_rank») (times i) q → a ≡ sparseQuery len c i q
       unfolding sparseQuery
       query-opened q a ea =
-          ea ∙ ap₂ (λ (n : ℕ) (b : Bool). sparseAsk n b (times i) q) same-length same-choice
+          ea ∙ ap (λ (u : SArray). sparseAsk (u .«num_bits») (u .«has_rank») (times i) q) (told .1)
           ∙ sym (ap (λ (b : Bool). cond b (sparseAsk len c (times i) q) (refused 7)) (told .0))
 
-    pub query-refused : (x : Refusal) → r ≡ opened.Refused x → (q : SparseQuestion) → refused (numberOf x) ≡ sparseQuery len c i q
+    pub query-refused : (x : Refusal) → r ≡ found-as.Refused x → (q : SparseQuestion) → refused (numberOf x) ≡ sparseQuery len c i q
     unfolding sparseOpen sparseQuery
-    query-refused x e q = refusal-by (isVector len c i) (numberOf x) (vectorParts len c i) (sparseAsk len c (times i) q) (sym (ap ofOpened e) ∙ er)
+    query-refused x e q = refusal-by (isVector len c i) (numberOf x) (vectorOf len c i) (sparseAsk len c (times i) q) (sym (ap ofVector e) ∙ er)
 
-pub open-zeros : (i : List ℕ) (len : ℕ) (c : Bool) → length i ≡ 0 → (p : Parts) → p ≡ noParts len c → OpenVector i p
-open-zeros i len c e p ep = record {
-  ok = zeros-are (p .universe) (p .rank) i e;
-  parts = ep ∙ sym (ap₂ (λ (n : ℕ) (b : Bool). vectorParts n b i) (ap (λ (q : Parts). q .universe) ep) (ap (λ (q : Parts). q .rank) ep) ∙ no-parts len c i e);
-}
+module _ (i : List ℕ) (v : SArray) (o : OpenVector i v) where
+  abbrev len : ℕ
+  len = v .«num_bits»
 
-module _ (i : List ℕ) (p : Parts) (o : OpenVector i p) where
-  -- one with a one has an image
-  pub with-image : (p .«num_pushed» ≡ 0 → ⊥) → (accepted i ≡ true) × (p ≡ partsOf i)
-  with-image h = by (ℕ-discrete (length i) 0)
-    where
-      by : Dec (length i ≡ 0) → (accepted i ≡ true) × (p ≡ partsOf i)
-      by (yes z) = absurd (h (ap (λ (q : Parts). q .«num_pushed») (o .parts ∙ no-parts (p .universe) (p .rank) i z)))
-      by (no z) = (words-ok i (p .universe) (p .rank) z (o .ok), o .parts ∙ some-parts (p .universe) (p .rank) i z)
+  abbrev c : Bool
+  c = v .«has_rank»
 
-  pub many : p .«num_pushed» ≡ length (times i)
-  many = by (ℕ-discrete (length i) 0)
-    where
-      by : Dec (length i ≡ 0) → p .«num_pushed» ≡ length (times i)
-      by (yes z) = ap (λ (q : Parts). q .«num_pushed») (o .parts ∙ no-parts (p .universe) (p .rank) i z) ∙ sym (ap length (no-times i z))
-      by (no z) = selecting.pushed-is i (words-ok i (p .universe) (p .rank) z (o .ok)) p (o .parts ∙ some-parts (p .universe) (p .rank) i z)
+  pub many : v .«num_ones» ≡ length (times i)
+  many = ap (λ (u : SArray). u .«num_ones») (o .is)
+
+  module _ (some : v .«num_ones» ≡ 0 → ⊥) where
+    -- one with a one has an image
+    words : length i ≡ 0 → ⊥
+    words e = some (many ∙ ap length (no-times i e))
+
+    pub image-ok : accepted i ≡ true
+    image-ok = words-ok i len c words (o .ok)
+
+    pub parts-are : v .parts ≡ partsOf i
+    parts-are = ap (λ (u : SArray). u .parts) (o .is) ∙ ap (λ (b : Bool). cond b noParts (partsOf i)) (ne-eqb (length i) 0 words)
+
+    pub long : universe i ≡ v .«num_bits»
+    long = words-long i len c words (o .ok)
+
+    pub choice : ranked i ≡ v .«has_rank»
+    choice = words-choice i len c words (o .ok)

@@ -5,19 +5,30 @@ use mathlib.Core.Bool.{Bool, true, cond}
 use Prim.Native.Nat.{ℕ}
 use lib.Dec.{eqb}
 use lib.ListN.{length}
-use Rattle.broadword.specs.Places.{SelectInByte}
-use Rattle.elias_fano.specs.declared.image.Parts.{Parts}
-use Rattle.elias_fano.specs.Accept.{partsOf, noParts, Opening, parts, unopened, times}
+use Rattle.errors.specs.Refusal.{numberOf}
+use Rattle.elias_fano.specs.Accept.{partsOf, noParts, times}
+use Rattle.sarray.specs.declared.vector.SArray.{SArray}
+use Rattle.sarray.specs.declared.vector.Vector.{Vector}
+use Rattle.sarray.specs.declared.vector.Vector.the-variants as found
 use Rattle.sarray.specs.Ask.{isVector}
 
--- the parts of its image; one of zeros has none, and keeps its length and choice
-abbrev pub vectorParts : ℕ → Bool → List ℕ → Parts
-vectorParts len c i = cond (eqb (length i) 0) (noParts len c) (partsOf i)
+-- the vector of that length and choice; one of zeros has no image, and no parts
+abbrev pub vectorOf : ℕ → Bool → List ℕ → SArray
+vectorOf len c i = record { «num_bits» = len; «num_ones» = length (times i); parts = cond (eqb (length i) 0) noParts (partsOf i); «has_rank» = c }
 
-unfoldable pub sparseOpen : ℕ → Bool → List ℕ → Opening
-sparseOpen len c i = cond (isVector len c i) (parts (vectorParts len c i)) (unopened 7)
+-- what an opening finds: a vector, or a refusal by its number
+pub data SparseOpening : Type 0 where
+  vector : SArray → SparseOpening
+  unopened : ℕ → SparseOpening
 
--- an opened vector: its length and choice are those of its parts
-pub record OpenVector (i : List ℕ) (p : Parts) : Type 0 where
-  pub ok : isVector (p .universe) (p .rank) i ≡ true
-  pub parts : p ≡ vectorParts (p .universe) (p .rank) i
+abbrev pub ofVector : Vector → SparseOpening
+ofVector (found.Opened v) = vector v
+ofVector (found.Refused e) = unopened (numberOf e)
+
+unfoldable pub sparseOpen : ℕ → Bool → List ℕ → SparseOpening
+sparseOpen len c i = cond (isVector len c i) (vector (vectorOf len c i)) (unopened 7)
+
+-- an opened vector
+pub record OpenVector (i : List ℕ) (v : SArray) : Type 0 where
+  pub ok : isVector (v .«num_bits») (v .«has_rank») i ≡ true
+  pub is : v ≡ vectorOf (v .«num_bits») (v .«has_rank») i

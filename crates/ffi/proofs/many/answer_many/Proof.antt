@@ -1,6 +1,7 @@
 -- `ffi::many::answer_many` meets its contract.
 -- Assumes nothing.
 use borrow.Author.Needs.{needs}
+use mathlib.Core.Path.{_∙_}
 use Rattle.elias_fano.specs.Accept.{accepted}
 use Rattle.elias_fano.specs.Ask.{query}
 use Rattle.elias_fano.proofs.Answers as answers
@@ -34,7 +35,8 @@ returns c = telling.outcome-told _ _ (c .before .before .answer-fitting .ensures
 returns-2 : tie.Need-returns-2
 returns-2 c =
     let s = c .before .before .before .before .before .before .before .before in
-    telling.outcome-told _ _ (answering.many-refused (accepted (s .args .words .now)) (λ x. query (s .args .words .now) (questionOf (s .args .kind) x)) (s .args .args .now) (s .args .out .now) _ _ _ _ (answering.by-opening (s .args .words .now) (c .before .before .before .before .«open» .ensures)) (c .before .before .e .given .1) (c .number .ensures))
+    let h = answering.record-refused (s .args .words .now) _ _ (c .before .before .before .before .«open» .ensures) (c .before .before .e .given .1) in
+    telling.outcome-told _ _ (answering.many-refused (accepted (s .args .words .now)) (λ x. query (s .args .words .now) (questionOf (s .args .kind) x)) (s .args .args .now) (s .args .out .now) _ (h .0) (c .number .ensures ∙ h .1))
 
 pub answer-many-spec : {M : Type 1} → statement M
 answer-many-spec =

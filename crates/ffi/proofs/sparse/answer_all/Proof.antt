@@ -9,10 +9,10 @@ use Rattle.ffi.proofs.sparse.answer_all.Statement.{statement}
 use Rattle.ffi.proofs.sparse.answer_all.Tie as tie
 
 abbrev Inv-loop : tie.InvT-loop
-Inv-loop image p kind args count out₀ table places i₀ out i = answering.Answered (λ x. sparseQuery (p .universe) (p .rank) image (sparseQuestionOf kind x)) args out₀ count out i
+Inv-loop image v kind args count out₀ table places i₀ out i = answering.Answered (λ x. sparseQuery (v .«num_bits») (v .«has_rank») image (sparseQuestionOf kind x)) args out₀ count out i
 
 abbrev μ-loop : tie.MeasureT-loop
-μ-loop image p kind args count out₀ table places i₀ out i = count - i
+μ-loop image v kind args count out₀ table places i₀ out i = count - i
 
 loop-holds : tie.Need-loop-holds Inv-loop μ-loop
 loop-holds c = answering.none-answered _ _ _ _

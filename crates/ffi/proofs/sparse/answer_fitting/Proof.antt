@@ -25,7 +25,7 @@ same-length c = search needs
 returns : tie.Need-returns
 returns c =
     let s = c .before .before .before .before .before .before .before .before .before .before .before .before in
-    answering.many-opened (isVector (s .args .p .universe) (s .args .p .rank) (s .args .image .now)) (λ x. sparseQuery (s .args .p .universe) (s .args .p .rank) (s .args .image .now) (sparseQuestionOf (s .args .kind) x)) (s .args .args .now) (s .args .out .now) (s .pre .ok) _ _ (c .before .before .before .before .before .before .lesser .ensures) (c .before .before .answer-all .ensures)
+    answering.many-opened (isVector (s .args .v .«num_bits») (s .args .v .«has_rank») (s .args .image .now)) (λ x. sparseQuery (s .args .v .«num_bits») (s .args .v .«has_rank») (s .args .image .now) (sparseQuestionOf (s .args .kind) x)) (s .args .args .now) (s .args .out .now) (s .pre .ok) _ _ (c .before .before .before .before .before .before .lesser .ensures) (c .before .before .answer-all .ensures)
 
 pub answer-fitting-spec : {M : Type 1} → statement M
 answer-fitting-spec =

@@ -52,19 +52,19 @@ tell-place-requires-3 : tie.Need-tell-place-requires-3
 tell-place-requires-3 c κs = search needs
 
 returns : tie.Need-returns
-returns c = let s = c .before .before .before .before .before in answering.one-sparse (s .args .image .now) (s .args .p) (s .pre .0) (s .args .kind) sparse-kind.Access (s .args .arg) _ _ (c .tell-bit .ensures) (c .before .access-opened .ensures) (c .before .before .enum-told .given .1)
+returns c = let s = c .before .before .before .before .before in answering.one-sparse (s .args .image .now) (s .args .v) (s .pre .0) (s .args .kind) sparse-kind.Access (s .args .arg) _ _ (c .tell-bit .ensures) (c .before .access-opened .ensures) (c .before .before .enum-told .given .1)
 
 returns-2 : tie.Need-returns-2
-returns-2 c = let s = c .before .before .before .before .before in answering.one-sparse (s .args .image .now) (s .args .p) (s .pre .0) (s .args .kind) sparse-kind.Rank1 (s .args .arg) _ _ (c .tell-count .ensures) (c .before .rank1-opened .ensures) (c .before .before .enum-told2 .given .1)
+returns-2 c = let s = c .before .before .before .before .before in answering.one-sparse (s .args .image .now) (s .args .v) (s .pre .0) (s .args .kind) sparse-kind.Rank1 (s .args .arg) _ _ (c .tell-count .ensures) (c .before .rank1-opened .ensures) (c .before .before .enum-told2 .given .1)
 
 returns-3 : tie.Need-returns-3
-returns-3 c = let s = c .before .before .before .before .before in answering.one-sparse (s .args .image .now) (s .args .p) (s .pre .0) (s .args .kind) sparse-kind.Select1 (s .args .arg) _ _ (c .tell-place .ensures) (c .before .select1-opened .ensures) (c .before .before .enum-told3 .given .1)
+returns-3 c = let s = c .before .before .before .before .before in answering.one-sparse (s .args .image .now) (s .args .v) (s .pre .0) (s .args .kind) sparse-kind.Select1 (s .args .arg) _ _ (c .tell-place .ensures) (c .before .select1-opened .ensures) (c .before .before .enum-told3 .given .1)
 
 returns-4 : tie.Need-returns-4
-returns-4 c = let s = c .before .before .before .before .before in answering.one-sparse (s .args .image .now) (s .args .p) (s .pre .0) (s .args .kind) sparse-kind.Predecessor1 (s .args .arg) _ _ (c .tell-place2 .ensures) (c .before .predecessor1-opened .ensures) (c .before .before .enum-told4 .given .1)
+returns-4 c = let s = c .before .before .before .before .before in answering.one-sparse (s .args .image .now) (s .args .v) (s .pre .0) (s .args .kind) sparse-kind.Predecessor1 (s .args .arg) _ _ (c .tell-place2 .ensures) (c .before .predecessor1-opened .ensures) (c .before .before .enum-told4 .given .1)
 
 returns-5 : tie.Need-returns-5
-returns-5 c = let s = c .before .before .before .before .before in answering.one-sparse (s .args .image .now) (s .args .p) (s .pre .0) (s .args .kind) sparse-kind.Successor1 (s .args .arg) _ _ (c .tell-place3 .ensures) (c .before .successor1-opened .ensures) (c .before .before .enum-told5 .given .1)
+returns-5 c = let s = c .before .before .before .before .before in answering.one-sparse (s .args .image .now) (s .args .v) (s .pre .0) (s .args .kind) sparse-kind.Successor1 (s .args .arg) _ _ (c .tell-place3 .ensures) (c .before .successor1-opened .ensures) (c .before .before .enum-told5 .given .1)
 
 pub answer-opened-spec : {M : Type 1} → statement M
 answer-opened-spec =

@@ -9,8 +9,8 @@ use Rattle.sarray.proofs.queries.access.Tie as tie
 open-requires : tie.Need-open-requires
 open-requires c κs = search needs
 
-enum-known-p : tie.Need-enum-known-p
-enum-known-p c = search needs
+enum-known-v : tie.Need-enum-known-v
+enum-known-v c = search needs
 
 select-in-byte-table-requires : tie.Need-select-in-byte-table-requires
 select-in-byte-table-requires c κs = search needs
@@ -19,16 +19,16 @@ debruijn64-table-requires : tie.Need-debruijn64-table-requires
 debruijn64-table-requires c κs = search needs
 
 access-opened-requires : tie.Need-access-opened-requires
-access-opened-requires c κs = let s = c .before .before .before .before .before .before .before .before .before in (vectors.open-vector (s .args .image .now) (s .args .len) (s .args .rank) _ (c .before .before .before .before .before .before .before .«open» .ensures) _ (c .before .before .before .before .before .p .given .1), c .before .before .before .select-in-byte-table .ensures, c .before .before .debruijn64-table .ensures)
+access-opened-requires c κs = let s = c .before .before .before .before .before .before .before .before .before in (vectors.open-vector (s .args .image .now) (s .args .len) (s .args .rank) _ (c .before .before .before .before .before .before .before .«open» .ensures) _ (c .before .before .before .before .before .v .given .1), c .before .before .before .select-in-byte-table .ensures, c .before .before .debruijn64-table .ensures)
 
 enum-known-e : tie.Need-enum-known-e
 enum-known-e c = search needs
 
 returns : tie.Need-returns
-returns c = let s = c .before .before .before .before .before .before .before .before .before .before in vectors.query-opened (s .args .image .now) (s .args .len) (s .args .rank) _ (c .before .before .before .before .before .before .before .before .«open» .ensures) _ (c .before .before .before .before .before .before .p .given .1) (Access (s .args .pos)) _ (c .access-opened .ensures)
+returns c = let s = c .before .before .before .before .before .before .before .before .before .before in vectors.query-opened (s .args .image .now) (s .args .len) (s .args .rank) _ (c .before .before .before .before .before .before .before .before .«open» .ensures) _ (c .before .before .before .before .before .before .v .given .1) (Access (s .args .pos)) _ (c .access-opened .ensures)
 
 returns-2 : tie.Need-returns-2
 returns-2 c = let s = c .before .before .before .before .before in vectors.query-refused (s .args .image .now) (s .args .len) (s .args .rank) _ (c .before .before .before .«open» .ensures) _ (c .before .e .given .1) (Access (s .args .pos))
 
 pub access-spec : {M : Type 1} → statement M
-access-spec = tie.close (tie.spec open-requires enum-known-p select-in-byte-table-requires debruijn64-table-requires access-opened-requires enum-known-e returns returns-2)
+access-spec = tie.close (tie.spec open-requires enum-known-v select-in-byte-table-requires debruijn64-table-requires access-opened-requires enum-known-e returns returns-2)

@@ -7,22 +7,22 @@ use Rattle.sarray.proofs.queries.successor1_opened.Statement.{statement
 use Rattle.sarray.proofs.queries.successor1_opened.Tie as tie
 
 returns : tie.Need-returns
-returns c = let s = c .before .before .before in answering.successor-8 (s .args .image .now) (s .args .p) (s .pre .0) (c .if1 .taken) (s .args .pos)
+returns c = let s = c .before .before .before in answering.successor-8 (s .args .image .now) (s .args .v) (s .pre .0) (c .if1 .taken) (s .args .pos)
 
 returns-2 : tie.Need-returns-2
-returns-2 c = let s = c .before .before .before .before .before in answering.successor-past (s .args .image .now) (s .args .p) (s .pre .0) (c .before .before .if1 .left) (s .args .pos) (c .if2 .taken)
+returns-2 c = let s = c .before .before .before .before .before in answering.successor-past (s .args .image .now) (s .args .v) (s .pre .0) (c .before .before .if1 .left) (s .args .pos) (c .if2 .taken)
 
 returns-3 : tie.Need-returns-3
-returns-3 c = let s = c .before .before .before .before .before .before .before in answering.successor-zeros (s .args .image .now) (s .args .p) (s .pre .0) (c .before .before .before .before .if1 .left) (s .args .pos) (c .before .before .if2 .left) (c .if3 .taken)
+returns-3 c = let s = c .before .before .before .before .before .before .before in answering.successor-zeros (s .args .image .now) (s .args .v) (s .pre .0) (c .before .before .before .before .if1 .left) (s .args .pos) (c .before .before .if2 .left) (c .if3 .taken)
 
 successor-opened-requires : tie.Need-successor-opened-requires
-successor-opened-requires c κs = let s = c .before .before .before .before .before .before .before in (answering.is-open (s .args .image .now) (s .args .p) (s .pre .0) (c .if3 .left) _ (s .pre .1), s .pre .2)
+successor-opened-requires c κs = let s = c .before .before .before .before .before .before .before in (answering.is-open (s .args .image .now) (s .args .v) (s .pre .0) (c .if3 .left) _ (s .pre .1), s .pre .2)
 
 place-of-requires : tie.Need-place-of-requires
 place-of-requires c κs = search needs
 
 returns-4 : tie.Need-returns-4
-returns-4 c = let s = c .before .before .before .before .before .before .before .before .before in c .place-of .ensures ∙ c .before .successor-opened .ensures ∙ answering.successor-is (s .args .image .now) (s .args .p) (s .pre .0) (c .before .before .before .before .before .before .if1 .left) (s .args .pos) (c .before .before .before .before .if2 .left) (c .before .before .if3 .left)
+returns-4 c = let s = c .before .before .before .before .before .before .before .before .before in c .place-of .ensures ∙ c .before .successor-opened .ensures ∙ answering.successor-is (s .args .image .now) (s .args .v) (s .pre .0) (c .before .before .before .before .before .before .if1 .left) (s .args .pos) (c .before .before .before .before .if2 .left) (c .before .before .if3 .left)
 
 pub successor1-opened-spec : {M : Type 1} → statement M
 successor1-opened-spec = tie.close (tie.spec returns returns-2 returns-3 successor-opened-requires place-of-requires returns-4)
