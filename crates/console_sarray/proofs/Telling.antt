@@ -1,20 +1,20 @@
 -- Laws of the commands' definitions, by cases. Assumes nothing.
-use mathlib.Core.Path.{_≡_, refl, sym, ap, ap₂, _∙_}
-use mathlib.Core.Bool.{Bool, true, false, cond, not}
+use mathlib.Core.Path.{_≡_, sym, ap, _∙_}
+use mathlib.Core.Bool.{Bool, true, false, cond}
 use mathlib.Core.List.{List}
 use Prim.Native.Nat.{ℕ, _≤_, _<_}
 use lib.Dec.{eqb, ltb}
 use borrow.Author.Tests.{lt-ltb, le-ltb, eq-eqb, ne-eqb}
 use Rattle.errors.specs.Answer.{done}
-use Rattle.sarray.specs.Ask.{SparseQuestion, Access, Rank1, Select1, Predecessor1, Successor1, sparseQuery}
+use Rattle.sarray.specs.Ask.{SparseQuestion, Successor1, sparseQuery}
 use Rattle.sarray.specs.Build.{sparseFromBits}
 use Rattle.console_text.specs.declared.line.Arguments.{Arguments}
-use Rattle.console_text.specs.Says.{Says, answers, bad, unknown}
+use Rattle.console_text.specs.Says.{answers, bad, unknown}
 use Rattle.console_record.specs.declared.Record.{Record}
 use Rattle.console_record.specs.Section.{Turn}
 use Rattle.console_sums.specs.Commands.{wholeWithin, fitsChoiceOf}
 use Rattle.console_sarray.specs.declared.Sparse.{Sparse}
-use Rattle.console_sarray.specs.Commands.{questionAt, askedOf, SparseTurn, sparseTurn, sparse, fitsSetOf, setOf, vectorAfter, withVector, builtOf, commandOf}
+use Rattle.console_sarray.specs.Commands.{questionAt, askedOf, sparseTurn, sparse, fitsSetOf, setOf, vectorAfter, withVector, builtOf, commandOf}
 
 -- ---- the questions
 

@@ -1,10 +1,10 @@
 -- The console's sparse vector: what each command says, and what it leaves. i is the image, v the length and choice that are held, s what is held of the record,
 -- r the command's numbers, w are the buffer's words. Assumes nothing.
-use mathlib.Core.Bool.{Bool, true, not, cond, _&&_}
+use mathlib.Core.Bool.{Bool, not, cond, _&&_}
 use mathlib.Core.List.{List, [], _∷_}
 use Prim.Native.Nat.{ℕ}
 use lib.Dec.{eqb, ltb}
-use Rattle.errors.specs.Answer.{Answer, value, none, done, refused}
+use Rattle.errors.specs.Answer.{value, none, done, refused}
 use Rattle.sarray.specs.Ask.{SparseQuestion, Access, Rank1, Select1, Predecessor1, Successor1, sparseQuery}
 use Rattle.sarray.specs.Build.{sparseFromBits}
 use Rattle.console_text.specs.declared.line.Arguments.{Arguments}

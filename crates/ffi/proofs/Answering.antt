@@ -8,7 +8,7 @@ use native.Mathlib.Numerals.{add-one}
 use native.Mathlib.Omega.{arith}
 use lib.ListN.{length, getD, take, drop, set, length-append, length-drop}
 use lib.Seq.{length-take-le, take-suc, take-at, drop-append-add, drop-drop}
-use Rattle.errors.specs.Answer.{Answer, value, refused, Outcome, leaves}
+use Rattle.errors.specs.Answer.{Answer, value, refused, leaves}
 use Rattle.errors.specs.Refusal.{numberOf}
 use Rattle.errors.specs.declared.Refusal.{Refusal}
 use Rattle.bit_words.proofs.Packed.{set-two}

@@ -2,10 +2,10 @@
 use mathlib.Core.Path.{_≡_, refl, sym, ap, _∙_, subst}
 use mathlib.Core.List.{List, [], _∷_}
 use mathlib.Core.Bool.{Bool, true, false, not, _||_, cond}
-use Prim.Native.Nat.{ℕ, suc, _+_, _-_, _≤_, _<_}
+use Prim.Native.Nat.{ℕ, suc, _-_, _≤_, _<_}
 use native.Mathlib.Nat.{le-refl}
 use native.Mathlib.Omega.{arith}
-use borrow.Author.Tests.{lt-ltb, le-ltb, le-leb, lt-leb, not-true, not-false}
+use borrow.Author.Tests.{lt-ltb, le-ltb, le-leb, lt-leb}
 use lib.Dec.{eqb, leb, ltb}
 use lib.ListN.{length, getD, take, drop}
 use lib.Seq.{take-all}
@@ -18,7 +18,7 @@ use Rattle.elias_fano.specs.Ask.{Predecessor, Successor, Binsearch, nth, below,
 use Rattle.elias_fano.specs.Opening.{Open}
 use Rattle.elias_fano.proofs.Answers.{refused-value}
 use Rattle.elias_fano.proofs.Selecting as selecting
-use Rattle.elias_fano_queries.proofs.Answering.{yes-of, no-of}
+use Rattle.elias_fano_queries.proofs.Answering.{no-of}
 use Rattle.elias_fano_queries.proofs.Below as below-law
 use Rattle.elias_fano_queries.proofs.Opened as opened
 use Rattle.sarray.specs.Ask.{Access, Rank1, Select1, Predecessor1, Successor1, member, sparseAsk}

@@ -1,21 +1,18 @@
 -- Every question of what a call writes is that question of the plain bits. Assumes nothing.
 use mathlib.Core.Path.{_≡_, refl, sym, ap, ap₂, _∙_, subst}
 use mathlib.Core.List.{List, [], _∷_, _++_}
-use mathlib.Core.Bool.{Bool, true, false, not, _&&_, _||_, cond}
-use Prim.Native.Nat.{ℕ, zero, suc, _+_, _-_, _^_, _≤_, _<_, min}
-use native.Mathlib.Nat.{le-refl, lt-of-not-le, lt-of-lt-of-le, le-of-eq}
-use native.Mathlib.Numerals.{add-one}
+use mathlib.Core.Bool.{Bool, true, false, not, _||_, cond}
+use Prim.Native.Nat.{ℕ, zero, suc, _+_, _≤_, _<_, min}
+use native.Mathlib.Nat.{lt-of-not-le}
 use native.Mathlib.Decide.{decLt, decLe, ℕ-discrete}
 use native.Mathlib.Omega.{arith}
-use borrow.Author.Tests.{lt-ltb, le-ltb, le-leb, lt-leb, eq-eqb, ne-eqb, eqb-false, eqb-true, ltb-false}
+use borrow.Author.Tests.{lt-ltb, le-ltb, le-leb, lt-leb, eq-eqb, ne-eqb}
 use lib.Dec.{eqb, leb, ltb}
-use lib.ListN.{length, getD, take, drop}
-use lib.Seq.{take-append-seam}
-use Rattle.errors.specs.Answer.{Answer, value, none, done, refused, Outcome, leaves, passing}
+use lib.ListN.{length, getD}
+use Rattle.errors.specs.Answer.{Answer, value, none, refused}
 use Rattle.broadword.specs.Bits.{count}
 use Rattle.broadword.specs.Fields.{flag}
 use Rattle.broadword.specs.Places.{last, select}
-use Rattle.broadword.specs.declared.Found.{Found}
 use Rattle.broadword.specs.declared.Found.the-variants.{At, Nothing}
 use Rattle.broadword.proofs.Count.{count-mono}
 use Rattle.broadword.proofs.Find.{Selected, last-at, last-none, select-none}
@@ -25,7 +22,7 @@ use Rattle.bit_words.proofs.Runs.{bitOver-le}
 use Rattle.bit_vectors.specs.Queries.{ofFound, ifValid, accessOf, rank1Of, selectBitOf, predecessor1Of}
 use Rattle.darray_positions.specs.Positions.{places}
 use Rattle.darray_positions.proofs.Positions as position
-use Rattle.elias_fano_words.proofs.Bitwise.{count-suc, count-one}
+use Rattle.elias_fano_words.proofs.Bitwise.{count-one}
 use Rattle.elias_fano.specs.Ask.{nth, below, greatest, smallest}
 use Rattle.elias_fano_queries.proofs.Answering.{yes-of, no-of}
 use Rattle.elias_fano_queries.proofs.Below as below-law

@@ -1,5 +1,5 @@
 -- `console_sarray::alter` meets its contract. Assumes nothing.
-use mathlib.Core.Path.{ap, sym, _∙_}
+use mathlib.Core.Path.{ap, _∙_}
 use Prim.Native.Nat.{ℕ}
 use Rattle.console_sarray.specs.Commands.{commands, commandOf}
 use Rattle.console_sarray.proofs.Telling.{command-unknown, command-set, command-built}

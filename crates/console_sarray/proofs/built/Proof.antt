@@ -1,7 +1,6 @@
 -- `console_sarray::built` meets its contract. Assumes nothing.
 use mathlib.Core.Path.{sym, _∙_}
 use borrow.Author.Tests.{not-true, not-false}
-use Rattle.console_record.specs.Section.{turnOf}
 use Rattle.console_sarray.proofs.Telling.{built-bad, built-told}
 use borrow.Author.Needs.{needs}
 use Rattle.console_sarray.proofs.built.Statement.{statement}

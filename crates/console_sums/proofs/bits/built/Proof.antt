@@ -1,11 +1,9 @@
 -- `console_sums::bits::built` meets its contract. Assumes nothing.
-use mathlib.Core.Path.{_≡_, sym, ap, _∙_}
-use mathlib.Core.Bool.{Bool, true, false}
-use mathlib.Core.List.{List}
-use Prim.Native.Nat.{ℕ}
+use mathlib.Core.Path.{sym, ap, _∙_}
+use mathlib.Core.Bool.{Bool}
 use Rattle.errors.specs.Answer.{Outcome}
 use Rattle.console_record.specs.declared.Told.{Told}
-use Rattle.console_record.specs.Section.{Turn, turnOf}
+use Rattle.console_record.specs.Section.{turnOf}
 use Rattle.console_sums.specs.Commands.{ofWhole, bitsCall}
 use Rattle.console_sums.proofs.Telling.{built-leaves}
 use borrow.Author.Needs.{needs}

@@ -1,6 +1,5 @@
 -- `sarray::queries::select1_opened` meets its contract.
 -- Assumes nothing.
-use borrow.Author.Needs.{needs}
 use native.Mathlib.Omega.{arith}
 use Rattle.sarray.proofs.Answering as answering
 use Rattle.sarray.proofs.queries.select1_opened.Statement.{statement}
