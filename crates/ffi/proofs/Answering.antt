@@ -22,8 +22,7 @@ use Rattle.sarray.specs.Ask.{isVector, sparseAsk, sparseQuery}
 use Rattle.sarray.specs.declared.vector.SArray.{SArray}
 use Rattle.sarray.specs.declared.vector.Vector.{Vector}
 use Rattle.sarray.specs.declared.vector.Vector.the-variants as found
-use Rattle.sarray.specs.Opened as sparse
-use Rattle.sarray.specs.Opened.{vectorOf, vector, ofVector, sparseOpen, OpenVector}
+use Rattle.sarray.specs.Opened.{vectorOf, vector, noVector, ofVector, sparseOpen, OpenVector}
 use Rattle.ffi.specs.declared.EfAnswer.{EfAnswer}
 use Rattle.ffi.specs.declared.many.Kind.{Kind}
 use Rattle.ffi.specs.declared.sparse.SparseKind.{SparseKind}
@@ -144,6 +143,6 @@ pub vector-refused : (len : ℕ) (c : Bool) (i : List ℕ) (r : Vector) (x : Ref
 unfolding sparseOpen
 vector-refused len c i r x er e = by (isVector len c i) (vectorOf len c i) (sym (ap ofVector e) ∙ er)
   where
-    by : (b : Bool) (v : SArray) → sparse.unopened (numberOf x) ≡ cond b (vector v) (sparse.unopened 7) → (b ≡ false) × (numberOf x ≡ 7)
+    by : (b : Bool) (v : SArray) → noVector (numberOf x) ≡ cond b (vector v) (noVector 7) → (b ≡ false) × (numberOf x ≡ 7)
     by true v q = let z : _≡_ {A = ℕ} 0 1 = cc in absurd (omega arith)
     by false v q = (refl, cc)

@@ -9,8 +9,7 @@ use Rattle.elias_fano.specs.declared.builder.Builder.{Builder}
 use Rattle.elias_fano.specs.declared.builder.Pushed.{Pushed}
 use Rattle.elias_fano.specs.Accept.{Opening, parts, unopened}
 use Rattle.elias_fano.specs.Made.{made, builder, ofPushed}
-use Rattle.sarray.specs.Opened as sparse
-use Rattle.sarray.specs.Opened.{SparseOpening, vector}
+use Rattle.sarray.specs.Opened.{SparseOpening, vector, noVector}
 use Rattle.ffi.specs.declared.EfAnswer.{EfAnswer}
 use Rattle.ffi.specs.declared.EfBuilder.{EfBuilder}
 use Rattle.ffi.specs.declared.EfPushed.{EfPushed}
@@ -36,7 +35,7 @@ efOpened (unopened k) = k
 
 abbrev pub efSparse : SparseOpening → ℕ
 efSparse (vector v) = 0
-efSparse (sparse.unopened k) = k
+efSparse (noVector k) = k
 
 -- a start or a reading, told
 abbrev pub Told : EfBuilder → Pushed → EfPushed → Type 0

@@ -17,8 +17,7 @@ use Rattle.elias_fano_words.specs.Times.{unrepeatedIf}
 use Rattle.elias_fano.specs.declared.image.Opened.{Opened}
 use Rattle.elias_fano.specs.declared.image.Opened.the-variants as opened
 use Rattle.elias_fano.specs.declared.image.Parts.{Parts}
-use Rattle.elias_fano.specs.Accept as accept
-use Rattle.elias_fano.specs.Accept.{universe, declared, pushed, ranked, times, accepted, acceptedIf, partsBy, partsOf, noParts, ofOpened, openIf}
+use Rattle.elias_fano.specs.Accept.{universe, declared, pushed, ranked, times, accepted, acceptedIf, partsBy, partsOf, noParts, parts, unopened, ofOpened, openIf}
 use Rattle.elias_fano.proofs.Accepting.{found}
 use Rattle.elias_fano.proofs.Answers.{image-by}
 use Rattle.elias_fano.proofs.Images.{flag-one, no-times}
@@ -27,7 +26,7 @@ use Rattle.sarray.specs.Ask.{SparseQuestion, isVector, sparseAsk, sparse
 use Rattle.sarray.specs.declared.vector.SArray.{SArray}
 use Rattle.sarray.specs.declared.vector.Vector.{Vector}
 use Rattle.sarray.specs.declared.vector.Vector.the-variants as found-as
-use Rattle.sarray.specs.Opened.{vectorOf, vector, unopened, ofVector, sparseOpen, OpenVector}
+use Rattle.sarray.specs.Opened.{vectorOf, vector, noVector, ofVector, sparseOpen, OpenVector}
 
 -- ---- words
 
@@ -79,20 +78,20 @@ module _ (p : Parts) (len : ℕ) (c : Bool) where
 -- ---- opening
 
 module _ (i : List ℕ) (len : ℕ) (c : Bool) where
-  by-vector : {b : Bool} → isVector len c i ≡ b → sparseOpen len c i ≡ cond b (vector (vectorOf len c i)) (unopened 7)
+  by-vector : {b : Bool} → isVector len c i ≡ b → sparseOpen len c i ≡ cond b (vector (vectorOf len c i)) (noVector 7)
   unfolding sparseOpen
-  by-vector e = ap (λ (b : Bool). cond b (vector (vectorOf len c i)) (unopened 7)) e
+  by-vector e = ap (λ (b : Bool). cond b (vector (vectorOf len c i)) (noVector 7)) e
 
   pub opens-zeros : length i ≡ 0 → (p : Parts) → p ≡ noParts → vector (sarray len c 0 p) ≡ sparseOpen len c i
   opens-zeros e p ep = ap vector (zeros-vector len c i e 0 refl p ep) ∙ sym (by-vector (zeros-are len c i e))
 
   module _ (some : length i ≡ 0 → ⊥) where
-    refused-by : (a b : Bool) (k : ℕ) (q : Parts) → accept.unopened k ≡ cond a (accept.parts q) (accept.unopened 7) → (a && b) ≡ false
+    refused-by : (a b : Bool) (k : ℕ) (q : Parts) → unopened k ≡ cond a (parts q) (unopened 7) → (a && b) ≡ false
     refused-by true b k q e = let z : _≡_ {A = ℕ} 0 1 = cc in absurd (omega arith)
     refused-by false b k q e = refl
 
     -- opening refuses the image
-    pub opens-refused : (r : Opened) (x : Refusal) → ofOpened r ≡ openIf true i → r ≡ opened.Refused x → unopened 7 ≡ sparseOpen len c i
+    pub opens-refused : (r : Opened) (x : Refusal) → ofOpened r ≡ openIf true i → r ≡ opened.Refused x → noVector 7 ≡ sparseOpen len c i
     opens-refused r x er e = sym (by-vector (words-are len c i some ∙ refused-by (acceptedIf true i) (fits len c i) (numberOf x) (partsOf i) (sym (ap ofOpened e) ∙ er)))
 
     module _ (r : Opened) (p : Parts) (er : ofOpened r ≡ openIf true i) (e : r ≡ opened.Image p) where
@@ -124,7 +123,7 @@ module _ (i : List ℕ) (len : ℕ) (c : Bool) where
       vector-is : isVector len c i ≡ whole p len c
       vector-is = words-are len c i some ∙ ap (λ (b : Bool). b && fits len c i) (is-open .0) ∙ sym fits-is
 
-      pub opens-other : whole p len c ≡ false → unopened 7 ≡ sparseOpen len c i
+      pub opens-other : whole p len c ≡ false → noVector 7 ≡ sparseOpen len c i
       opens-other h = sym (by-vector (vector-is ∙ h))
 
       pub opens-image : whole p len c ≡ true → vector (sarray len c (p .«num_pushed») p) ≡ sparseOpen len c i
@@ -150,11 +149,11 @@ module _ (i : List ℕ) (len : ℕ) (c : Bool) where
     words-choice : ranked i ≡ c
     words-choice = ap (λ (w : ℕ). eqb w 1) (eqb-true (getD i 3 0) (flag c) (and-true (eqb (getD i 3 0) (flag c)) _ (rest .1) .0)) ∙ flag-one c
 
-  vector-by : (b : Bool) (v u : SArray) → vector v ≡ cond b (vector u) (unopened 7) → (b ≡ true) × (v ≡ u)
+  vector-by : (b : Bool) (v u : SArray) → vector v ≡ cond b (vector u) (noVector 7) → (b ≡ true) × (v ≡ u)
   vector-by true v u e = (refl, cc)
   vector-by false v u e = let z : _≡_ {A = ℕ} 0 1 = cc in absurd (omega arith)
 
-  refusal-by : (b : Bool) (k : ℕ) (u : SArray) (a : Answer) → unopened k ≡ cond b (vector u) (unopened 7) → refused k ≡ cond b a (refused 7)
+  refusal-by : (b : Bool) (k : ℕ) (u : SArray) (a : Answer) → noVector k ≡ cond b (vector u) (noVector 7) → refused k ≡ cond b a (refused 7)
   refusal-by true k u a e = let z : _≡_ {A = ℕ} 0 1 = cc in absurd (omega arith)
   refusal-by false k u a e = let d : k ≡ 7 = cc in ap refused d
 

@@ -19,14 +19,14 @@ vectorOf len c i = record { «num_bits» = len; «num_ones» = length (times i);
 -- what an opening finds: a vector, or a refusal by its number
 pub data SparseOpening : Type 0 where
   vector : SArray → SparseOpening
-  unopened : ℕ → SparseOpening
+  noVector : ℕ → SparseOpening
 
 abbrev pub ofVector : Vector → SparseOpening
 ofVector (found.Opened v) = vector v
-ofVector (found.Refused e) = unopened (numberOf e)
+ofVector (found.Refused e) = noVector (numberOf e)
 
 unfoldable pub sparseOpen : ℕ → Bool → List ℕ → SparseOpening
-sparseOpen len c i = cond (isVector len c i) (vector (vectorOf len c i)) (unopened 7)
+sparseOpen len c i = cond (isVector len c i) (vector (vectorOf len c i)) (noVector 7)
 
 -- an opened vector
 pub record OpenVector (i : List ℕ) (v : SArray) : Type 0 where
