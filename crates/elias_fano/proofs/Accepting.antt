@@ -54,7 +54,7 @@ six-of (a ∷ b ∷ c ∷ d ∷ []) h = absurd (omega arith)
 six-of (a ∷ b ∷ c ∷ d ∷ e ∷ []) h = absurd (omega arith)
 six-of (a ∷ b ∷ c ∷ d ∷ e ∷ f ∷ i) h = refl
 
-flag-eqb : (w : ℕ) → w ≤ 1 → (b : Bool) → eqb w 1 ≡ b → w ≡ flag b
+pub flag-eqb : (w : ℕ) → w ≤ 1 → (b : Bool) → eqb w 1 ≡ b → w ≡ flag b
 flag-eqb w h true e = eqb-true w 1 e
 flag-eqb w h false e = let ne = eqb-false w 1 e in omega arith
 

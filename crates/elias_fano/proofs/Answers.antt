@@ -30,9 +30,9 @@ pub image-by : (b : Bool) (p q : Parts) → parts p ≡ cond b (parts q) (unopen
 image-by true p q e = (refl, cc)
 image-by false p q e = let z : _≡_ {A = ℕ} 0 1 = cc in absurd (omega arith)
 
-pub refused-by : (b : Bool) (k : ℕ) (q : Parts) (a : Answer) → unopened k ≡ cond b (parts q) (unopened 7) → refused k ≡ cond b a (refused 7)
-refused-by true k q a e = let z : _≡_ {A = ℕ} 0 1 = cc in absurd (omega arith)
-refused-by false k q a e = let d : k ≡ 7 = cc in ap refused d
+pub refused-by : (b : Bool) (k : ℕ) (q : Parts) → unopened k ≡ cond b (parts q) (unopened 7) → (b ≡ false) × (k ≡ 7)
+refused-by true k q e = let z : _≡_ {A = ℕ} 0 1 = cc in absurd (omega arith)
+refused-by false k q e = (refl, cc)
 
 module _ (i : List ℕ) where
   -- ---- a header
@@ -61,9 +61,15 @@ module _ (i : List ℕ) where
   unfolding openOf
   is-open r p er e = image-by (accepted i) p (partsOf i) (sym (ap ofOpened e) ∙ er)
 
+  pub not-open : (r : Opened) (x : Refusal) → ofOpened r ≡ openOf i → r ≡ opened.Refused x → (accepted i ≡ false) × (numberOf x ≡ 7)
+  unfolding openOf
+  not-open r x er e = refused-by (accepted i) (numberOf x) (partsOf i) (sym (ap ofOpened e) ∙ er)
+
   pub query-refused : (r : Opened) (x : Refusal) (q : Question) → ofOpened r ≡ openOf i → r ≡ opened.Refused x → refused (numberOf x) ≡ query i q
-  unfolding openOf query
-  query-refused r x q er e = refused-by (accepted i) (numberOf x) (partsOf i) (asked i q) (sym (ap ofOpened e) ∙ er)
+  unfolding query
+  query-refused r x q er e =
+      let d = not-open r x er e in
+      ap refused (d .1) ∙ sym (ap (λ (b : Bool). cond b (asked i q) (refused 7)) (d .0))
 
   pub query-opened : (a : Answer) (q : Question) → accepted i ≡ true → a ≡ asked i q → a ≡ query i q
   unfolding query

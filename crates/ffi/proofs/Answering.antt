@@ -9,20 +9,13 @@ use native.Mathlib.Omega.{arith}
 use lib.ListN.{length, getD, take, drop, set, length-append, length-drop}
 use lib.Seq.{length-take-le, take-suc, take-at, drop-append-add, drop-drop}
 use Rattle.errors.specs.Answer.{Answer, value, refused, leaves}
-use Rattle.errors.specs.Refusal.{numberOf}
-use Rattle.errors.specs.declared.Refusal.{Refusal}
 use Rattle.bit_words.proofs.Packed.{set-two}
-use Rattle.elias_fano.specs.declared.image.Opened.{Opened}
-use Rattle.elias_fano.specs.declared.image.Opened.the-variants as opened
-use Rattle.elias_fano.specs.declared.image.Parts.{Parts}
-use Rattle.elias_fano.specs.Accept.{accepted, parts, unopened, partsOf, ofOpened, openOf, times}
+use Rattle.elias_fano.specs.Accept.{accepted, times}
 use Rattle.elias_fano.specs.Ask.{asked, query}
 use Rattle.elias_fano.proofs.Answers as answers
-use Rattle.sarray.specs.Ask.{isVector, sparseAsk, sparseQuery}
+use Rattle.sarray.specs.Ask.{sparseAsk, sparseQuery}
 use Rattle.sarray.specs.declared.vector.SArray.{SArray}
-use Rattle.sarray.specs.declared.vector.Vector.{Vector}
-use Rattle.sarray.specs.declared.vector.Vector.the-variants as found
-use Rattle.sarray.specs.Opened.{vectorOf, vector, noVector, ofVector, sparseOpen, OpenVector}
+use Rattle.sarray.specs.Opened.{OpenVector}
 use Rattle.ffi.specs.declared.EfAnswer.{EfAnswer}
 use Rattle.ffi.specs.declared.many.Kind.{Kind}
 use Rattle.ffi.specs.declared.sparse.SparseKind.{SparseKind}
@@ -129,20 +122,3 @@ module _ (ok : Bool) (f : ℕ → Answer) (xs d : List ℕ) where
   many-refused k e ek =
       ap (λ (y : ℕ). leaves (refused y) d) ek
       ∙ sym (ap (λ (b : Bool). cond b (leaves (value (both xs d)) (answered f (both xs d) xs d)) (leaves (refused 7) d)) e)
-
--- what is not opened is refused with 7
-pub record-refused : (i : List ℕ) (r : Opened) (x : Refusal) → ofOpened r ≡ openOf i → r ≡ opened.Refused x → (accepted i ≡ false) × (numberOf x ≡ 7)
-unfolding openOf
-record-refused i r x er e = by (accepted i) (partsOf i) (sym (ap ofOpened e) ∙ er)
-  where
-    by : (b : Bool) (p : Parts) → unopened (numberOf x) ≡ cond b (parts p) (unopened 7) → (b ≡ false) × (numberOf x ≡ 7)
-    by true p q = let z : _≡_ {A = ℕ} 0 1 = cc in absurd (omega arith)
-    by false p q = (refl, cc)
-
-pub vector-refused : (len : ℕ) (c : Bool) (i : List ℕ) (r : Vector) (x : Refusal) → ofVector r ≡ sparseOpen len c i → r ≡ found.Refused x → (isVector len c i ≡ false) × (numberOf x ≡ 7)
-unfolding sparseOpen
-vector-refused len c i r x er e = by (isVector len c i) (vectorOf len c i) (sym (ap ofVector e) ∙ er)
-  where
-    by : (b : Bool) (v : SArray) → noVector (numberOf x) ≡ cond b (vector v) (noVector 7) → (b ≡ false) × (numberOf x ≡ 7)
-    by true v q = let z : _≡_ {A = ℕ} 0 1 = cc in absurd (omega arith)
-    by false v q = (refl, cc)

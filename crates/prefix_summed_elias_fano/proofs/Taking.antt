@@ -1,7 +1,7 @@
 -- The walk over the items: how it begins, what a step takes and leaves, and reading out. Assumes nothing.
 use mathlib.Core.Path.{_≡_, refl, sym, ap, ap₂, _∙_, subst}
 use mathlib.Core.List.{List, _∷_, _++_}
-use mathlib.Core.Bool.{Bool, true, false, cond, _||_}
+use mathlib.Core.Bool.{Bool, true, cond, _||_}
 use Prim.Native.Nat.{ℕ, zero, suc, _+_, _-_, _≤_, _<_, min}
 use native.Mathlib.Nat.{add-zero}
 use native.Mathlib.Numerals.{add-one}
@@ -15,8 +15,9 @@ use Rattle.errors.specs.declared.Refusal.{Refusal}
 use Rattle.elias_fano.specs.declared.image.Opened.{Opened}
 use Rattle.elias_fano.specs.declared.image.Opened.the-variants as opened
 use Rattle.elias_fano.specs.declared.image.Parts.{Parts}
-use Rattle.elias_fano.specs.Accept.{universe, times, accepted, partsOf, noParts, parts, unopened, ofOpened, openOf}
+use Rattle.elias_fano.specs.Accept.{universe, times, accepted, partsOf, noParts, parts, ofOpened, openOf}
 use Rattle.elias_fano.specs.Ask.{nth, readOut, filled}
+use Rattle.elias_fano.proofs.Answers.{not-open}
 use Rattle.elias_fano.proofs.Images as images
 use Rattle.elias_fano.proofs.Selecting as selecting
 use Rattle.elias_fano_walk.specs.declared.walk.Walk.{Walk}
@@ -66,13 +67,8 @@ module _ (i : List ℕ) where
     pub starts-opened : accepted i ≡ true → (k : ℕ) (c : ItemPlace) → ItemsOver i (c .parts) (c .walk) → c .walk .values .number ≡ k → c .parts ≡ partsOf i → StartsItems i k (started.ItemPlace c)
     starts-opened ok k c o n e = (askable-some some ∙ ok, o, n, e ∙ sym (ap (λ (b : Bool). cond b noParts (partsOf i)) (ne-eqb (length i) 0 some)))
 
-    refused-by : (b : Bool) (n : ℕ) (q : Parts) → unopened n ≡ cond b (parts q) (unopened 7) → (b ≡ false) × (n ≡ 7)
-    refused-by true n q e = let z : _≡_ {A = ℕ} 0 1 = cc in absurd (omega arith)
-    refused-by false n q e = (refl, cc)
-
     pub starts-refused : (x : Refusal) → r ≡ opened.Refused x → (k : ℕ) → StartsItems i k (started.Refused x)
-    unfolding openOf
-    starts-refused x e k = let d = refused-by (accepted i) (numberOf x) (partsOf i) (sym (ap ofOpened e) ∙ er) in (askable-some some ∙ d .0, d .1)
+    starts-refused x e k = let d = not-open i r x er e in (askable-some some ∙ d .0, d .1)
 
 -- ---- a step
 

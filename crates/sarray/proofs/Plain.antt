@@ -33,22 +33,18 @@ use Rattle.sarray.specs.Build.{plain}
 
 -- ---- the places of the ones, as a list of set places
 
+or-false : (b : Bool) → (b || false) ≡ b
+or-false true = refl
+or-false false = refl
+
 member-snoc : (p x : ℕ) (S : List ℕ) → member p (S ++ (x ∷ [])) ≡ (member p S || eqb x p)
 unfolding member
-member-snoc p x [] = by (eqb x p)
-  where
-    by : (b : Bool) → (b || false) ≡ b
-    by true = refl
-    by false = refl
+member-snoc p x [] = or-false (eqb x p)
 member-snoc p x (y ∷ S) = ap (λ (b : Bool). eqb y p || b) (member-snoc p x S) ∙ by (eqb y p)
   where
     by : (b : Bool) → (b || (member p S || eqb x p)) ≡ ((b || member p S) || eqb x p)
     by true = refl
     by false = refl
-
-or-false : (b : Bool) → (b || false) ≡ b
-or-false true = refl
-or-false false = refl
 
 or-true : (b : Bool) → (b || true) ≡ true
 or-true true = refl

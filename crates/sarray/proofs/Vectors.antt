@@ -2,8 +2,7 @@
 use mathlib.Core.Path.{_≡_, refl, sym, ap, ap₂, _∙_, subst}
 use mathlib.Core.List.{List}
 use mathlib.Core.Bool.{Bool, true, false, _&&_, _||_, cond}
-use Prim.Native.Nat.{ℕ, _≤_}
-use native.Mathlib.Decide.{ℕ-discrete}
+use Prim.Native.Nat.{ℕ}
 use native.Mathlib.Omega.{arith}
 use borrow.Author.Tests.{eq-eqb, ne-eqb, eqb-true}
 use lib.Dec.{eqb}
@@ -17,9 +16,9 @@ use Rattle.elias_fano_words.specs.Times.{unrepeatedIf}
 use Rattle.elias_fano.specs.declared.image.Opened.{Opened}
 use Rattle.elias_fano.specs.declared.image.Opened.the-variants as opened
 use Rattle.elias_fano.specs.declared.image.Parts.{Parts}
-use Rattle.elias_fano.specs.Accept.{universe, declared, pushed, ranked, times, accepted, acceptedIf, partsBy, partsOf, noParts, parts, unopened, ofOpened, openIf}
-use Rattle.elias_fano.proofs.Accepting.{found}
-use Rattle.elias_fano.proofs.Answers.{image-by}
+use Rattle.elias_fano.specs.Accept.{universe, declared, pushed, ranked, times, accepted, acceptedIf, partsBy, partsOf, noParts, parts, ofOpened, openIf}
+use Rattle.elias_fano.proofs.Accepting.{found, flag-eqb}
+use Rattle.elias_fano.proofs.Answers.{image-by, refused-by}
 use Rattle.elias_fano.proofs.Images.{flag-one, no-times}
 use Rattle.elias_fano.proofs.Selecting as selecting
 use Rattle.sarray.specs.Ask.{SparseQuestion, isVector, sparseAsk, sparseQuery}
@@ -86,13 +85,11 @@ module _ (i : List ℕ) (len : ℕ) (c : Bool) where
   opens-zeros e p ep = ap vector (zeros-vector len c i e 0 refl p ep) ∙ sym (by-vector (zeros-are len c i e))
 
   module _ (some : length i ≡ 0 → ⊥) where
-    refused-by : (a b : Bool) (k : ℕ) (q : Parts) → unopened k ≡ cond a (parts q) (unopened 7) → (a && b) ≡ false
-    refused-by true b k q e = let z : _≡_ {A = ℕ} 0 1 = cc in absurd (omega arith)
-    refused-by false b k q e = refl
-
     -- opening refuses the image
     pub opens-refused : (r : Opened) (x : Refusal) → ofOpened r ≡ openIf true i → r ≡ opened.Refused x → noVector 7 ≡ sparseOpen len c i
-    opens-refused r x er e = sym (by-vector (words-are len c i some ∙ refused-by (acceptedIf true i) (fits len c i) (numberOf x) (partsOf i) (sym (ap ofOpened e) ∙ er)))
+    opens-refused r x er e =
+        let d = refused-by (acceptedIf true i) (numberOf x) (partsOf i) (sym (ap ofOpened e) ∙ er) in
+        sym (by-vector (words-are len c i some ∙ ap (λ (b : Bool). b && fits len c i) (d .0)))
 
     module _ (r : Opened) (p : Parts) (er : ofOpened r ≡ openIf true i) (e : r ≡ opened.Image p) where
       is-open : (acceptedIf true i ≡ true) × (p ≡ partsOf i)
@@ -104,14 +101,7 @@ module _ (i : List ℕ) (len : ℕ) (c : Bool) where
       -- word 3 of an accepted image is its choice
       choice-is : flag (p .rank) ≡ getD i 3 0
       unfolding partsBy
-      choice-is = ap (λ (q : Parts). flag (q .rank)) (is-open .1) ∙ by (getD i 3 0) (found i ok .head .counts .choice)
-        where
-          by : (w : ℕ) → w ≤ 1 → flag (eqb w 1) ≡ w
-          by w h = go (ℕ-discrete w 1)
-            where
-              go : Dec (w ≡ 1) → flag (eqb w 1) ≡ w
-              go (yes q) = ap flag (eq-eqb w 1 q) ∙ sym q
-              go (no q) = ap flag (ne-eqb w 1 q) ∙ (let z : w ≡ 0 = omega arith in sym z)
+      choice-is = ap (λ (q : Parts). flag (q .rank)) (is-open .1) ∙ sym (flag-eqb (getD i 3 0) (found i ok .head .counts .choice) (ranked i) refl)
 
       -- whether the parts fit is whether the header does
       fits-is : whole p len c ≡ fits len c i
@@ -153,9 +143,9 @@ module _ (i : List ℕ) (len : ℕ) (c : Bool) where
   vector-by true v u e = (refl, cc)
   vector-by false v u e = let z : _≡_ {A = ℕ} 0 1 = cc in absurd (omega arith)
 
-  refusal-by : (b : Bool) (k : ℕ) (u : SArray) (a : Answer) → noVector k ≡ cond b (vector u) (noVector 7) → refused k ≡ cond b a (refused 7)
-  refusal-by true k u a e = let z : _≡_ {A = ℕ} 0 1 = cc in absurd (omega arith)
-  refusal-by false k u a e = let d : k ≡ 7 = cc in ap refused d
+  no-vector-by : (b : Bool) (k : ℕ) (u : SArray) → noVector k ≡ cond b (vector u) (noVector 7) → (b ≡ false) × (k ≡ 7)
+  no-vector-by true k u e = let z : _≡_ {A = ℕ} 0 1 = cc in absurd (omega arith)
+  no-vector-by false k u e = (refl, cc)
 
   module _ (r : Vector) (er : ofVector r ≡ sparseOpen len c i) where
     module _ (v : SArray) (e : r ≡ found-as.Opened v) where
@@ -172,9 +162,15 @@ module _ (i : List ℕ) (len : ℕ) (c : Bool) where
           ea ∙ ap (λ (u : SArray). sparseAsk (u .«num_bits») (u .«has_rank») (times i) q) (told .1)
           ∙ sym (ap (λ (b : Bool). cond b (sparseAsk len c (times i) q) (refused 7)) (told .0))
 
+    pub not-vector : (x : Refusal) → r ≡ found-as.Refused x → (isVector len c i ≡ false) × (numberOf x ≡ 7)
+    unfolding sparseOpen
+    not-vector x e = no-vector-by (isVector len c i) (numberOf x) (vectorOf len c i) (sym (ap ofVector e) ∙ er)
+
     pub query-refused : (x : Refusal) → r ≡ found-as.Refused x → (q : SparseQuestion) → refused (numberOf x) ≡ sparseQuery len c i q
-    unfolding sparseOpen sparseQuery
-    query-refused x e q = refusal-by (isVector len c i) (numberOf x) (vectorOf len c i) (sparseAsk len c (times i) q) (sym (ap ofVector e) ∙ er)
+    unfolding sparseQuery
+    query-refused x e q =
+        let d = not-vector x e in
+        ap refused (d .1) ∙ sym (ap (λ (b : Bool). cond b (sparseAsk len c (times i) q) (refused 7)) (d .0))
 
 module _ (i : List ℕ) (v : SArray) (o : OpenVector i v) where
   abbrev len : ℕ

@@ -35,7 +35,7 @@ returns c = telling.outcome-told _ _ (c .before .before .answer-fitting .ensures
 returns-2 : tie.Need-returns-2
 returns-2 c =
     let s = c .before .before .before .before .before .before .before .before in
-    let h = answering.record-refused (s .args .words .now) _ _ (c .before .before .before .before .«open» .ensures) (c .before .before .e .given .1) in
+    let h = answers.not-open (s .args .words .now) _ _ (c .before .before .before .before .«open» .ensures) (c .before .before .e .given .1) in
     telling.outcome-told _ _ (answering.many-refused (accepted (s .args .words .now)) (λ x. query (s .args .words .now) (questionOf (s .args .kind) x)) (s .args .args .now) (s .args .out .now) _ (h .0) (c .number .ensures ∙ h .1))
 
 pub answer-many-spec : {M : Type 1} → statement M

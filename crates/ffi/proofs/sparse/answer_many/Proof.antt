@@ -39,7 +39,7 @@ returns c =
 returns-2 : tie.Need-returns-2
 returns-2 c =
     let s = c .before .before .before .before .before .before .before .before in
-    let h = answering.vector-refused (s .args .len) (s .args .rank) (s .args .image .now) _ _ (c .before .before .before .before .«open» .ensures) (c .before .before .e .given .1) in
+    let h = vectors.not-vector (s .args .image .now) (s .args .len) (s .args .rank) _ (c .before .before .before .before .«open» .ensures) _ (c .before .before .e .given .1) in
     telling.outcome-told _ _ (answering.many-refused (isVector (s .args .len) (s .args .rank) (s .args .image .now)) (λ x. sparseQuery (s .args .len) (s .args .rank) (s .args .image .now) (sparseQuestionOf (s .args .kind) x)) (s .args .args .now) (s .args .out .now) _ (h .0) (c .number .ensures ∙ h .1))
 
 pub answer-many-spec : {M : Type 1} → statement M
