@@ -1,12 +1,12 @@
 // The section Bits: a bit vector that is held as lent words and a length. Nothing is checked when it is set.
 use crate::index;
 use bit_vectors::Altered;
-use bit_vectors::Bit;
-use bit_vectors::Count;
-use bit_vectors::Place;
 use bit_vectors::Pushed;
 use bit_vectors::Word;
 use bit_vectors::bit_vector;
+use console_sarray::bit;
+use console_sarray::count;
+use console_sarray::place;
 use console_text::line;
 use console_text::line::Arguments;
 use console_text::output;
@@ -17,30 +17,6 @@ fn word(w: Word) -> Reply {
         Word::Value(x) => Reply::Value(x),
         Word::Nothing => Reply::Nothing,
         Word::Refused(r) => Reply::Refused(r),
-    }
-}
-
-fn bit(b: Bit) -> Reply {
-    match b {
-        Bit::Is(x) => Reply::Value(x as u64),
-        Bit::Nothing => Reply::Nothing,
-        Bit::Refused(r) => Reply::Refused(r),
-    }
-}
-
-fn count(c: Count) -> Reply {
-    match c {
-        Count::Ones(n) => Reply::Value(line::wide(n)),
-        Count::Nothing => Reply::Nothing,
-        Count::Refused(r) => Reply::Refused(r),
-    }
-}
-
-pub fn place(p: Place) -> Reply {
-    match p {
-        Place::At(i) => Reply::Value(line::wide(i)),
-        Place::Nothing => Reply::Nothing,
-        Place::Refused(r) => Reply::Refused(r),
     }
 }
 

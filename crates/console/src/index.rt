@@ -1,5 +1,5 @@
 // `index` and `index_select`: the select index over the ones or the zeros of the bits, built anew each time.
-use crate::bits;
+use console_sarray::place;
 use console_text::line;
 use console_text::output;
 use console_text::output::Reply;
@@ -122,5 +122,5 @@ pub fn select(words: &[u64], len: usize, b: u64, k: usize) -> Reply {
         return Reply::Bad;
     }
     let mut index = [0u64; 8192];
-    bits::place(darray::select_built(words, len, b == 1, &mut index, k))
+    place(darray::select_built(words, len, b == 1, &mut index, k))
 }

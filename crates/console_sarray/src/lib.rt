@@ -40,7 +40,8 @@ pub fn nothing() -> Sparse
     }
 }
 
-fn bit(b: Bit) -> Reply
+// The answers of bits, plain or sparse, as replies.
+pub fn bit(b: Bit) -> Reply
     ensures { λ t. ⌜ saysOf t ≡ answers (ofBit b) ⌝ }
 {
     match b {
@@ -53,7 +54,7 @@ fn bit(b: Bit) -> Reply
     }
 }
 
-fn count(n: Count) -> Reply
+pub fn count(n: Count) -> Reply
     ensures { λ t. ⌜ saysOf t ≡ answers (ofCount n) ⌝ }
 {
     match n {
@@ -63,7 +64,7 @@ fn count(n: Count) -> Reply
     }
 }
 
-fn place(p: Place) -> Reply
+pub fn place(p: Place) -> Reply
     ensures { λ t. ⌜ saysOf t ≡ answers (ofPlace p) ⌝ }
 {
     match p {
