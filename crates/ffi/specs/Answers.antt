@@ -33,6 +33,7 @@ abbrev pub efOpened : Opening → ℕ
 efOpened (parts p) = 0
 efOpened (unopened k) = k
 
+-- the same of a sparse vector
 abbrev pub efSparse : SparseOpening → ℕ
 efSparse (vector v) = 0
 efSparse (noVector k) = k

@@ -41,7 +41,7 @@ both xs out = min (length xs) (length out / 2)
 unfoldable pub answered : (ℕ → Answer) → ℕ → List ℕ → List ℕ → List ℕ
 answered f n xs out = answerWords f (take n xs) ++ drop (2 * n) out
 
--- the number of answers and every word of out; 7 comes first, and alters none
+-- the number of answers and every word of out, where f answers each argument; 7 comes first, for words that are not what is asked, and alters none
 unfoldable pub manyIf : Bool → (ℕ → Answer) → List ℕ → List ℕ → Outcome
 manyIf ok f xs out = cond ok (leaves (value (both xs out)) (answered f (both xs out) xs out)) (leaves (refused 7) out)
 
