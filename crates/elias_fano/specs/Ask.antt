@@ -1,5 +1,5 @@
 -- What a record answers to each question: over its settings and its list of times, and nothing of bits is in it. u is the universe, n the
--- declared count, c the rank choice, T the list of times. Document 01, "src/mii_sequences/elias_fano.rs" and "elias_fano/iter.rs"; the search is document 02 (i). Assumes nothing.
+-- declared count, c the rank choice, T the list of times. Document 01, "src/mii_sequences/elias_fano.rs" and "elias_fano/iter.rs"; the search is document 02 (i), the predecessor (iii). Assumes nothing.
 use mathlib.Core.List.{List, [], _∷_, _++_}
 use mathlib.Core.Bool.{Bool, not, _&&_, cond}
 use Prim.Native.Nat.{ℕ, suc, _+_, _-_}
@@ -85,7 +85,7 @@ module _ (u n : ℕ) (c : Bool) (T : List ℕ) where
   ask (Select k) = nth T k
   ask (Delta k) = gap T k
   ask (Rank t) = cond (ltb u t) none (cond (eqb t u) (value (length T)) (cond (not c) (refused 8) (value (below t T))))
-  ask (Predecessor v) = cond (leb u v) none (cond (not c && ltb (suc v) u) (refused 8) (greatest v T))
+  ask (Predecessor v) = cond (not c && ltb (suc v) u) (refused 8) (greatest v T)
   ask (Successor v) = cond (leb u v) none (cond (not c) (refused 8) (smallest v T))
   ask (Binsearch v) = searched T 0 (length T) v
   ask (BinsearchRange a b v) = searched T a b v

@@ -1,4 +1,4 @@
--- Document 01's examples of the calls as rows of one table, those of the search as document 02 (i) has them, and the theorem that covers the table. Assumes nothing.
+-- Document 01's examples of the calls as rows of one table, those of the search as document 02 (i) has them, of the predecessor as (iii), and the theorem that covers the table. Assumes nothing.
 use mathlib.Core.Path.{_≡_, ap}
 use mathlib.Core.List.{List, [], _∷_, _++_, map}
 use mathlib.Core.Bool.{Bool, true, false}
@@ -54,6 +54,10 @@ finish u n T c = buildOf (reading u n T .builder) c (reading u n T .words)
 unfoldable pub four : List ℕ
 four = 20 ∷ 4 ∷ 4 ∷ 1 ∷ 0 ∷ 0 ∷ 77 ∷ 67 ∷ 0 ∷ 0 ∷ 1 ∷ 0 ∷ []
 
+-- that of these settings and any times, without it
+unfoldable pub unranked : List ℕ → List ℕ
+unranked T = image 20 4 false T
+
 -- that of u 2^64 - 1, n 1, time 2^64 - 2, without it
 unfoldable pub widest : List ℕ
 widest = (2 ^ 64 - 1) ∷ 1 ∷ 1 ∷ 0 ∷ 0 ∷ 0 ∷ 2 ∷ (2 ^ 63 - 2) ∷ 1 ∷ 0 ∷ []
@@ -76,7 +80,7 @@ rows t =
     ∷ row (query four (Rank 20)) (value 4)
     ∷ row (query four (Rank 21)) none
     ∷ row (query four (Predecessor 19)) (value 13)
-    ∷ row (query four (Predecessor 20)) none
+    ∷ row (query four (Predecessor 20)) (value 13)
     ∷ row (query four (Successor 5)) (value 13)
     ∷ row (query four (Successor 14)) none
     ∷ row (query four (Delta 0)) (value 3)
@@ -98,7 +102,12 @@ rows t =
     ∷ call (reading 20 4 (20 ∷ [])) (refused 5) (replicate 8 0 ++ replicate 8 5)
     ∷ call (reading 20 4 (3 ∷ 4 ∷ 4 ∷ 13 ∷ 13 ∷ [])) (refused 6) (replicate 6 0 ++ (77 ∷ 67 ∷ replicate 8 5))
     ∷ row (query [] (Select 0)) (refused 7)
-    ∷ row (query (image 20 4 false (3 ∷ 4 ∷ 4 ∷ 13 ∷ [])) (Rank 4)) (refused 8)
+    ∷ row (query (unranked (3 ∷ 4 ∷ 4 ∷ 13 ∷ [])) (Rank 4)) (refused 8)
+    ∷ row (query (unranked (3 ∷ 4 ∷ 4 ∷ 13 ∷ [])) (Predecessor 18)) (refused 8)
+    ∷ row (query (unranked (3 ∷ 4 ∷ 4 ∷ 13 ∷ [])) (Predecessor 19)) (value 13)
+    ∷ row (query (unranked (3 ∷ 4 ∷ 4 ∷ 13 ∷ [])) (Predecessor 20)) (value 13)
+    ∷ row (query (unranked []) (Predecessor 18)) (refused 8)
+    ∷ row (query (unranked []) (Predecessor 20)) none
     ∷ row (query four (BinsearchRange 0 5 3)) (refused 9)
     ∷ []
 
@@ -109,7 +118,7 @@ past t = simp (le-ltb t 0 (zero-le {n = t}), le-leb 0 t (zero-le {n = t}))
 
 -- by computation, but for the one row with a time that is not known
 pub rows-right : (t : ℕ) → map (λ (r : Row). r .asked) (rows t) ≡ map (λ (r : Row). r .says) (rows t)
-unfolding rows four widest start filedFrom reading finish bit count word last select bitAt bitOver number numberWords overwrite table pos blocks size wide spill before entry lanes lane laneWord laneWords overflow indexWords places same lowLen highLen startLen highFrom lowNumber highWords lowWords image rising bitWords timeIn timesIn holds fit times accepted nth gap below greatest smallest firstIndex searched ask query newTest newOf sound builderTest timeTest filed pushOf heldTimes intact imageOf imageTest buildOf
+unfolding rows four unranked widest start filedFrom reading finish bit count word last select bitAt bitOver number numberWords overwrite table pos blocks size wide spill before entry lanes lane laneWord laneWords overflow indexWords places same lowLen highLen startLen highFrom lowNumber highWords lowWords image rising bitWords timeIn timesIn holds fit times accepted nth gap below greatest smallest firstIndex searched ask query newTest newOf sound builderTest timeTest filed pushOf heldTimes intact imageOf imageTest buildOf
 rows-right t =
     let w : List ℕ = replicate 7 0 ++ replicate 9 5 in
     let m : Answer → Made = λ a. tested a (builder 0 1 0 0) w (made done (builder 0 1 1 t) (filed 0 1 0 t w)) in

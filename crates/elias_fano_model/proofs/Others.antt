@@ -70,8 +70,7 @@ not-seven u n c T (Select k) = nth-other T k
 not-seven u n c T (Delta k) = gap-other T k
 not-seven u n c T (Rank t) =
     either (ltb u t) none _ a-none (either (eqb t u) (value (length T)) _ (a-value (length T)) (either (not c) (refused 8) (value (below t T)) (a-refusal 8 (λ e. omega arith)) (a-value (below t T))))
-not-seven u n c T (Predecessor v) =
-    either (leb u v) none _ a-none (either (not c && ltb (suc v) u) (refused 8) (greatest v T) (a-refusal 8 (λ e. omega arith)) (greatest-other v T))
+not-seven u n c T (Predecessor v) = either (not c && ltb (suc v) u) (refused 8) (greatest v T) (a-refusal 8 (λ e. omega arith)) (greatest-other v T)
 not-seven u n c T (Successor v) = either (leb u v) none _ a-none (either (not c) (refused 8) (smallest v T) (a-refusal 8 (λ e. omega arith)) (smallest-other v T))
 not-seven u n c T (Binsearch v) = searched-other T 0 (length T) v
 not-seven u n c T (BinsearchRange a b v) = searched-other T a b v

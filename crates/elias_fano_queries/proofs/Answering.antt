@@ -4,7 +4,6 @@ use mathlib.Core.List.{List, _∷_}
 use mathlib.Core.Bool.{Bool, true, false, not, _&&_, cond}
 use Prim.Native.Nat.{ℕ, zero, suc, _+_, _-_, _/_, _^_, _≤_, _<_}
 use native.Mathlib.Nat.{le-refl, le-of-lt}
-use native.Mathlib.Numerals.{add-one}
 use native.Mathlib.Omega.{arith}
 use borrow.Author.Tests.{lt-ltb, le-ltb, le-leb, lt-leb, eq-eqb, ne-eqb}
 use lib.Dec.{eqb, leb, ltb}
@@ -144,75 +143,66 @@ module _ (i : List ℕ) (ok : accepted i ≡ true) (p : Parts) (ep : p ≡ parts
   unfolding ask
   is-last a e = e ∙ ap (λ (k : ℕ). nth T (k - 1)) m-is
 
+  -- the last value below t, by how many there are
+  module _ (t : ℕ) (some : 0 < t) (k : ℕ) (ek : k ≡ below t T) where
+    count-is : below (suc (t - 1)) T ≡ k
+    count-is = let d : suc (t - 1) ≡ t = omega (arith, some) in ap (λ (w : ℕ). below w T) d ∙ sym ek
+
+    pub last-below-none : k ≡ 0 → none ≡ greatest (t - 1) T
+    last-below-none z = sym (below-law.greatest-none u (t - 1) T (opened.rises i ok) (count-is ∙ z))
+
+    pub last-below-some : (k ≡ 0 → ⊥) → (x : ℕ) → x ≡ getD T (k - 1) 0 → value x ≡ greatest (t - 1) T
+    last-below-some z x ex =
+        let d : k ≡ suc (k - 1) = omega (arith, z) in
+        ap value ex ∙ sym (below-law.greatest-some u (t - 1) T (opened.rises i ok) (k - 1) (count-is ∙ d))
+
   module _ (v : ℕ) where
     predecessor-by : {a : Answer} → ask u 0 c T (Predecessor v) ≡ a → a ≡ asked i (Predecessor v)
     unfolding ask
-    predecessor-by e = sym e ∙ ap (λ (b : Bool). cond (leb u v) none (cond (not b && ltb (suc v) u) (refused 8) (greatest v T))) (opened.rank-is i ok p ep)
+    predecessor-by e = sym e ∙ ap (λ (b : Bool). cond (not b && ltb (suc v) u) (refused 8) (greatest v T)) (opened.rank-is i ok p ep)
+
+    -- no time is above v, from the last number below the universe on
+    pub predecessor-last : p .universe ≤ suc v → (a : Answer) → a ≡ nth T (length T - 1) → a ≡ asked i (Predecessor v)
+    unfolding ask nth
+    predecessor-last h a ea =
+        ea ∙ last-of (length T) refl
+        ∙ predecessor-by (no-of (not c && ltb (suc v) u) (refused 8) _ (ap (λ (b : Bool). not c && b) (le-ltb (suc v) u (omega (arith, u-is, h))) ∙ and-false (not c)))
+      where
+        and-false : (b : Bool) → (b && false) ≡ false
+        and-false true = refl
+        and-false false = refl
+
+        all : below (suc v) T ≡ length T
+        all = below-law.below-is u (suc v) T (opened.rises i ok) (length T) (le-refl (length T)) (λ g. let q = rising-lt u T (length T - 1) (opened.rises i ok) (omega arith) in omega (arith, u-is, h)) (λ g. absurd (omega arith))
+
+        last-of : (m : ℕ) → length T ≡ m → cond (ltb (length T - 1) (length T)) (value (getD T (length T - 1) 0)) none ≡ greatest v T
+        last-of zero q = no-of (ltb (length T - 1) (length T)) _ none (le-ltb (length T - 1) (length T) (omega arith)) ∙ sym (below-law.greatest-none u v T (opened.rises i ok) (all ∙ q))
+        last-of (suc k) q =
+            let d : length T - 1 ≡ k = omega arith in
+            yes-of (ltb (length T - 1) (length T)) _ none (lt-ltb (length T - 1) (length T) (omega arith)) ∙ ap (λ (j : ℕ). value (getD T j 0)) d
+            ∙ sym (below-law.greatest-some u v T (opened.rises i ok) k (all ∙ q))
+
+    pub predecessor-8 : suc v < p .universe → not (p .rank) ≡ true → refused 8 ≡ asked i (Predecessor v)
+    unfolding ask
+    predecessor-8 h e = predecessor-by (yes-of (not c && ltb (suc v) u) (refused 8) _ (ap₂ (λ (a b : Bool). a && b) e (lt-ltb (suc v) u (omega (arith, u-is)))))
+
+    pub predecessor-is : not (p .rank) ≡ false → (t : ℕ) → t ≡ v + 1 → (a : Answer) → a ≡ greatest (t - 1) T → a ≡ asked i (Predecessor v)
+    unfolding ask
+    predecessor-is e t et a ea =
+        let d : t - 1 ≡ v = omega (arith, et) in
+        ea ∙ ap (λ (w : ℕ). greatest w T) d ∙ predecessor-by (no-of (not c && ltb (suc v) u) (refused 8) _ (ap (λ (b : Bool). b && ltb (suc v) u) e))
 
     successor-by : {a : Answer} → ask u 0 c T (Successor v) ≡ a → a ≡ asked i (Successor v)
     unfolding ask
     successor-by e = sym e ∙ ap (λ (b : Bool). cond (leb u v) none (cond (not b) (refused 8) (smallest v T))) (opened.rank-is i ok p ep)
 
-    module _ (h : p .universe ≤ v) where
-      past : leb u v ≡ true
-      past = le-leb u v (omega (arith, u-is))
-
-      pub predecessor-past : none ≡ asked i (Predecessor v)
-      unfolding ask
-      predecessor-past = predecessor-by (yes-of (leb u v) none _ past)
-
-      pub successor-past : none ≡ asked i (Successor v)
-      unfolding ask
-      successor-past = successor-by (yes-of (leb u v) none _ past)
+    pub successor-past : p .universe ≤ v → none ≡ asked i (Successor v)
+    unfolding ask
+    successor-past h = successor-by (yes-of (leb u v) none _ (le-leb u v (omega (arith, u-is))))
 
     module _ (h : v < p .universe) where
       within : leb u v ≡ false
       within = lt-leb u v (omega (arith, u-is))
-
-      -- no time is above v if v is the last below the universe
-      pub predecessor-last : v + 1 ≡ p .universe → (a : Answer) → a ≡ nth T (length T - 1) → a ≡ asked i (Predecessor v)
-      unfolding ask nth
-      predecessor-last e a ea =
-          ea ∙ last-of (length T) refl
-          ∙ predecessor-by (no-of (leb u v) none _ within ∙ no-of (not c && ltb (suc v) u) (refused 8) _ (ap (λ (b : Bool). not c && b) (le-ltb (suc v) u (omega (arith, u-is))) ∙ and-false (not c)))
-        where
-          and-false : (b : Bool) → (b && false) ≡ false
-          and-false true = refl
-          and-false false = refl
-
-          all : below (suc v) T ≡ length T
-          all = below-law.below-is u (suc v) T (opened.rises i ok) (length T) (le-refl (length T)) (λ g. let q = rising-lt u T (length T - 1) (opened.rises i ok) (omega arith) in omega (arith, u-is)) (λ g. absurd (omega arith))
-
-          last-of : (m : ℕ) → length T ≡ m → cond (ltb (length T - 1) (length T)) (value (getD T (length T - 1) 0)) none ≡ greatest v T
-          last-of zero q = no-of (ltb (length T - 1) (length T)) _ none (le-ltb (length T - 1) (length T) (omega arith)) ∙ sym (below-law.greatest-none u v T (opened.rises i ok) (all ∙ q))
-          last-of (suc k) q =
-              let d : length T - 1 ≡ k = omega arith in
-              yes-of (ltb (length T - 1) (length T)) _ none (lt-ltb (length T - 1) (length T) (omega arith)) ∙ ap (λ (j : ℕ). value (getD T j 0)) d
-              ∙ sym (below-law.greatest-some u v T (opened.rises i ok) k (all ∙ q))
-
-      module _ (g : v + 1 ≡ p .universe → ⊥) where
-        before : ltb (suc v) u ≡ true
-        before = lt-ltb (suc v) u (let a : (suc v ≡ u → ⊥) = λ e. g (add-one v ∙ e ∙ sym u-is) in omega (arith, u-is, g))
-
-        pub predecessor-8 : not (p .rank) ≡ true → refused 8 ≡ asked i (Predecessor v)
-        unfolding ask
-        predecessor-8 e = predecessor-by (no-of (leb u v) none _ within ∙ yes-of (not c && ltb (suc v) u) (refused 8) _ (ap₂ (λ (a b : Bool). a && b) e before))
-
-        predecessor-is : not (p .rank) ≡ false → (a : Answer) → a ≡ greatest v T → a ≡ asked i (Predecessor v)
-        unfolding ask
-        predecessor-is e a ea = ea ∙ predecessor-by (no-of (leb u v) none _ within ∙ no-of (not c && ltb (suc v) u) (refused 8) _ (ap (λ (b : Bool). b && ltb (suc v) u) e))
-
-        module _ (e : not (p .rank) ≡ false) (k : ℕ) (ek : k ≡ below (v + 1) T) where
-          count-is : below (suc v) T ≡ k
-          count-is = ap (λ (w : ℕ). below w T) (sym (add-one v)) ∙ sym ek
-
-          pub predecessor-none : k ≡ 0 → none ≡ asked i (Predecessor v)
-          predecessor-none z = predecessor-is e none (sym (below-law.greatest-none u v T (opened.rises i ok) (count-is ∙ z)))
-
-          pub predecessor-some : (k ≡ 0 → ⊥) → (x : ℕ) → x ≡ getD T (k - 1) 0 → value x ≡ asked i (Predecessor v)
-          predecessor-some z x ex =
-              let d : k ≡ suc (k - 1) = omega (arith, z) in
-              predecessor-is e (value x) (ap value ex ∙ sym (below-law.greatest-some u v T (opened.rises i ok) (k - 1) (count-is ∙ d)))
 
       pub successor-8 : not (p .rank) ≡ true → refused 8 ≡ asked i (Successor v)
       unfolding ask

@@ -7,9 +7,9 @@ ghost use Prim.Native.Nat.{_-_, _<_};
 ghost use lib.ListN.{length, getD};
 ghost use Rattle.broadword.specs.Places.{SelectInByte, Debruijn64};
 ghost use Rattle.elias_fano.specs.Accept.{times, ofValue};
-ghost use Rattle.elias_fano.specs.Ask.{Predecessor, Successor, nth, asked, query};
+ghost use Rattle.elias_fano.specs.Ask.{Predecessor, Successor, nth, greatest, asked, query};
 ghost use Rattle.elias_fano.specs.Opening.{Open, OneAt};
-ghost use Rattle.elias_fano_queries.specs.Demands.{Behind};
+ghost use Rattle.elias_fano_queries.specs.Demands.{Rankable, Behind};
 use crate::rank::rank_within;
 use bit_words::first_from;
 use bit_words::last_before;
@@ -77,27 +77,36 @@ fn last_value(image: &[u64], p: Parts, table: &[u8; 2048]) -> Value
     select_opened(image, p, m - 1, table)
 }
 
-// The greatest value at or below val, of an opened image.
+// The last value below t, if there is one: rank counts those up to it.
+fn last_below(image: &[u64], p: Parts, t: u64, table: &[u8; 2048]) -> Value
+    requires { ⌜ (Rankable (now image) p (now table) × (0 < t) × (t < p .universe)) ⌝ }
+    ensures { λ r. ⌜ ofValue r ≡ greatest (t - 1) (times (now (image .entry))) ⌝ }
+{
+    let k = rank_within(image, p, t, table);
+    if k == 0 {
+        return Value::Nothing;
+    }
+    let h = (t >> p.low_len) as usize;
+    Value::Is(value_before(image, p, k, h + k))
+}
+
+// The greatest value at or below val, of an opened image: the last one below `after`. All are below the universe, so that no rank is needed there.
 pub fn predecessor_opened(image: &[u64], p: Parts, val: u64, table: &[u8; 2048]) -> Value
     requires { ⌜ Open (now image) p (now table) ⌝ }
     ensures { λ r. ⌜ ofValue r ≡ asked (now (image .entry)) (Predecessor val) ⌝ }
 {
-    if val >= p.universe {
-        return Value::Nothing;
-    }
-    let after = val + 1;
+    let after = if val < p.universe {
+        val + 1
+    } else {
+        p.universe
+    };
     if after == p.universe {
         return last_value(image, p, table);
     }
     if !p.rank {
         return Value::Refused(Refusal::NoRankIndex);
     }
-    let k = rank_within(image, p, after, table);
-    if k == 0 {
-        return Value::Nothing;
-    }
-    let h = (after >> p.low_len) as usize;
-    Value::Is(value_before(image, p, k, h + k))
+    last_below(image, p, after, table)
 }
 
 // The smallest value at or above val, of an opened image.

@@ -175,11 +175,15 @@ module _ (i : List ℕ) (v : SArray) (o : OpenVector i v) where
     unfolding sparseAsk
     successor-past g = sym (simp (h, le-leb u x g))
 
-    module _ (g : x < u) where
-      pub predecessor-zeros : v .«num_ones» ≡ 0 → none ≡ sparseAsk u c T (Predecessor1 x)
-      unfolding sparseAsk greatest
-      predecessor-zeros e = sym (no-of (not c) (refused 8) (cond (leb u x) none (greatest x T)) h ∙ no-of (leb u x) none (greatest x T) (lt-leb u x g) ∙ ap (greatest x) (no-times e))
+    pub predecessor-zeros : v .«num_ones» ≡ 0 → none ≡ sparseAsk u c T (Predecessor1 x)
+    unfolding sparseAsk greatest
+    predecessor-zeros e = sym (no-of (not c) (refused 8) (cond (leb u x) none (greatest x T)) h ∙ ap (λ (S : List ℕ). cond (leb u x) none (greatest x S)) (no-times e) ∙ either (leb u x))
+      where
+        either : (b : Bool) → cond b none none ≡ none
+        either true = refl
+        either false = refl
 
+    module _ (g : x < u) where
       pub successor-zeros : v .«num_ones» ≡ 0 → none ≡ sparseAsk u c T (Successor1 x)
       unfolding sparseAsk smallest
       successor-zeros e = sym (no-of (not c) (refused 8) (cond (leb u x) none (smallest x T)) h ∙ no-of (leb u x) none (smallest x T) (lt-leb u x g) ∙ ap (smallest x) (no-times e))
@@ -194,7 +198,7 @@ module _ (i : List ℕ) (v : SArray) (o : OpenVector i v) where
 
         pub predecessor-is : asked i (Predecessor x) ≡ sparseAsk u c T (Predecessor1 x)
         unfolding ask sparseAsk
-        predecessor-is = simp (inside, chosen, h, lt-leb u x g)
+        predecessor-is = simp (chosen, h, lt-leb u x g)
 
         pub successor-is : asked i (Successor x) ≡ sparseAsk u c T (Successor1 x)
         unfolding ask sparseAsk

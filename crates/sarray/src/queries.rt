@@ -96,7 +96,8 @@ pub fn predecessor1_opened(image: &[u64], v: SArray, pos: usize, table: &[u8; 20
     if !v.has_rank {
         return Place::Refused(Refusal::NoRankIndex);
     }
-    if pos >= v.num_bits {
+    // the record has a predecessor from its universe on
+    if v.num_bits <= pos {
         return Place::Nothing;
     }
     if v.num_ones == 0 {
