@@ -332,8 +332,6 @@ class Record:
 
     def predecessor(self, v):
         settings, index, times = self.accepted()
-        if v >= settings.u:
-            return None
         if not index and v < settings.u - 1:
             raise Refused(8)
         return max((x for x in times if x <= v), default=None)

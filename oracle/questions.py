@@ -24,7 +24,8 @@ rank 14 -> 4
 rank 20 -> 4
 rank 21 -> none
 predecessor 19 -> 13
-predecessor 20 -> none
+predecessor 20 -> 13
+predecessor 18446744073709551615 -> 13
 successor 5 -> 13
 successor 14 -> none
 delta 0 -> 3
@@ -59,7 +60,8 @@ rank 20 -> 4
 rank 21 -> none
 predecessor 18 -> refused 8
 predecessor 19 -> 13
-predecessor 20 -> none
+predecessor 20 -> 13
+predecessor 18446744073709551615 -> 13
 successor 0 -> refused 8
 successor 19 -> refused 8
 successor 20 -> none
@@ -95,7 +97,7 @@ rank 18446744073709551614 -> 0
 rank 18446744073709551615 -> 1
 predecessor 18446744073709551613 -> none
 predecessor 18446744073709551614 -> 18446744073709551614
-predecessor 18446744073709551615 -> none
+predecessor 18446744073709551615 -> 18446744073709551614
 successor 0 -> 18446744073709551614
 successor 18446744073709551615 -> none
 """
@@ -257,6 +259,40 @@ def add_runs(add):
                 add("search_range", a, b, times[k])
 
 
+def add_from_universe(add):
+    add.note("the predecessor around the universe and past it: the last time, with and without the index; none where there is no time")
+    for u, n, times in (
+        (0, 1, ()),
+        (1, 1, ()),
+        (1, 1, (0,)),
+        (2, 1, ()),
+        (2, 2, (0, 0)),
+        (20, 4, ()),
+        (20, 4, (0,)),
+        (20, 4, (3, 4, 4, 13)),
+        (20, 9, (19, 19)),
+        (2**40, 3, (5, 2**39)),
+        (2**63, 2, (2**63 - 1,)),
+        (MAX - 1, 2, (7, MAX - 2)),
+        (MAX, 1, ()),
+        (MAX, 2, (0, MAX - 1)),
+        (131_072, 65_536, (*[0] * 1_023, 129_029, 131_071, 131_071)),
+    ):
+        begin(add, u, n, 300, 0) if len(times) <= 24 else lay(add, u, n, times, size(u, n) + 3_000)
+        for t in times if len(times) <= 24 else ():
+            add("reading", t)
+        for rank in (0, 1):
+            add("finish", rank)
+            for v in sorted({v for v in (0, u - 3, u - 2, u - 1, u, u + 1, u + 2, 2 * u, MAX - 1, MAX) if 0 <= v <= MAX}):
+                add("predecessor", v)
+    add.note("the same of prefix sums, which have no index")
+    for line in ("buffer 40 0", "sums 3 0 5", *(f"predecessor {v}" for v in (7, 8, 9, MAX)), "sums", "predecessor 9"):
+        add(line)
+    add.note("7 comes first")
+    for line in ("buffer 9 0", "start 1 1", "reading 0", "finish 0", "poke 2 2", "predecessor 0", "predecessor 1", f"predecessor {MAX}"):
+        add(line)
+
+
 def add_buckets(add):
     add.note("buckets of up to 16 values and of more, where rank halves")
     for many in (1, 15, 16, 17, 18, 33, 65):
@@ -413,6 +449,7 @@ def add_questions(add, count):
     add_damaged(add)
     add_out_of_form(add)
     add_runs(add)
+    add_from_universe(add)
 
 
 def exhaustive():

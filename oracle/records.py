@@ -157,6 +157,11 @@ DIFFERENCES = [
         lambda c: c.name in ("search", "search_range") and c.same_time(),
     ),
     (
+        "from the universe on the Rust has no predecessor",
+        ["buffer 9 0", "start 1 1", "reading 0", "finish 0", "predecessor 1"],
+        lambda c: c.name == "predecessor" and c.last_time(),
+    ),
+    (
         "a walk over an empty record, in a debug build",
         ["buffer 7 0", "start 0 1", "finish 0", "walk 0 0"],
         lambda c: c.name in ("walk", "read") and c.empty and c.rust == "panic",
@@ -205,7 +210,7 @@ DIFFERENCES = [
 
 # So many of them are of a start, a reading or a finish, then of questions, of the prefix sums, of a record from bits; the others are of the
 # sparse vector.
-BUILDING, ASKING, SUMS, FROM_BITS = 5, 10, 12, 14
+BUILDING, ASKING, SUMS, FROM_BITS = 5, 11, 13, 15
 
 # A release build answers there as the port does.
 ONLY_IN_DEBUG = DIFFERENCES[ASKING - 1][0]
@@ -214,9 +219,9 @@ ONLY_IN_DEBUG = DIFFERENCES[ASKING - 1][0]
 class Case:
     """A call that the Rust has: what the model answered, where the Rust's answer stands, and what the image is to be."""
 
-    def __init__(self, line, name, model, at, words=None, times=None):
+    def __init__(self, line, name, model, at, words=None, times=None, universe=None):
         self.line, self.name, self.model, self.at, self.words = line, name, model, at, words
-        self.times, self.empty = times, times == []
+        self.times, self.empty, self.universe = times, times == [], universe
         self.rust = None
 
     def same_time(self):
@@ -225,6 +230,12 @@ class Case:
             return False
         port, rust = int(self.model), int(self.rust)
         return port < rust and self.times[port] == self.times[rust]
+
+    def last_time(self):
+        """The value is not below the universe, the port's answer the last time and the Rust's none."""
+        if self.empty or int(self.line.split(" ")[1]) < self.universe:
+            return False
+        return (self.model, self.rust) == (str(self.times[-1]), "none")
 
     def agrees(self):
         if self.words is not None:
@@ -277,7 +288,7 @@ class Images:
         if self.held != words:
             self.hold(line, answer, words, times)
         if name in (*ASKED, *ITEMS):
-            self.cases.append(Case(line, name, answer, len(self.sent), times=times))
+            self.cases.append(Case(line, name, answer, len(self.sent), times=times, universe=words[0] if words else None))
             self.sent.append(line.replace("read", "walk"))
 
     def hold(self, line, answer, words, times):

@@ -386,6 +386,14 @@ def add_damaged(add):
             all_of(add, (rng.choice(EACH), f"sarray {length} {rank}", rng.choice(EACH)))
 
 
+def add_from_length(add):
+    add.note("from the length on the vector has no predecessor, and the record of the same image has one")
+    for rank in (0, 1):
+        all_of(add, ("buffer 12 0", "bits 20 8216", f"sarray_from_bits {rank}"))
+        for p in (12, 13, 18, 19, 20, 21, MAX):
+            all_of(add, (f"sarray_predecessor1 {p}", f"predecessor {p}"))
+
+
 def add_random(add, count):
     add.note("random vectors, and what may happen to them")
     rng = add.rng
@@ -490,6 +498,7 @@ def add_sarrays(add, count):
     add_records(add)
     add_damaged(add)
     add_random(add, count)
+    add_from_length(add)
     add_out_of_form(add)
 
 
