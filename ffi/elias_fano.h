@@ -111,8 +111,8 @@ EfAnswer ef_delta(const uint64_t *image, size_t len, size_t k);
 /* How many values are below `value`; EF_NONE above the universe. Needs the rank index below the universe. */
 EfAnswer ef_rank(const uint64_t *image, size_t len, uint64_t value);
 
-/* The greatest value at or below `value`; EF_NONE if there is none, and from the universe on. Needs the rank index but for the universe
- * less 1, which asks for the last value. */
+/* The greatest value at or below `value`; EF_NONE if there is none. Needs the rank index below the universe less 1; from there on it is
+ * the last value. */
 EfAnswer ef_predecessor(const uint64_t *image, size_t len, uint64_t value);
 
 /* The smallest value at or above `value`; EF_NONE if there is none, and from the universe on. Needs the rank index. */

@@ -178,7 +178,8 @@ static void questions(const uint64_t *w, size_t len) {
     must(is_value(ef_rank(w, len, 4), 1) && is_value(ef_rank(w, len, 5), 3), "rank");
     must(is_value(ef_rank(w, len, 20), 4) && is_none(ef_rank(w, len, 21)), "rank from the universe on");
     must(is_value(ef_predecessor(w, len, 12), 4) && is_none(ef_predecessor(w, len, 2)), "predecessor");
-    must(is_value(ef_predecessor(w, len, 19), 13) && is_none(ef_predecessor(w, len, 20)), "predecessor at the universe");
+    must(is_value(ef_predecessor(w, len, 19), 13) && is_value(ef_predecessor(w, len, 20), 13), "predecessor at the universe");
+    must(is_value(ef_predecessor(w, len, UINT64_MAX), 13), "predecessor past the universe");
     must(is_value(ef_successor(w, len, 5), 13) && is_none(ef_successor(w, len, 14)), "successor");
     must(is_value(ef_binsearch(w, len, 4), 1) && is_none(ef_binsearch(w, len, 5)), "binsearch");
     must(is_value(ef_binsearch_range(w, len, 2, 4, 4), 2) && is_none(ef_binsearch_range(w, len, 0, 1, 4)), "binsearch_range");
@@ -220,7 +221,8 @@ static void without_rank(void) {
     size_t len = image_of_four(false, w, 16);
     must(is_value(ef_has_rank(w, len), 0) && is_value(ef_select(w, len, 1), 4) && is_value(ef_binsearch(w, len, 13), 3), "no rank index");
     must(is_refused(ef_rank(w, len, 4), EF_NO_RANK_INDEX) && is_value(ef_rank(w, len, 20), 4), "rank with no index");
-    must(is_refused(ef_predecessor(w, len, 12), EF_NO_RANK_INDEX) && is_value(ef_predecessor(w, len, 19), 13), "predecessor with no index");
+    must(is_refused(ef_predecessor(w, len, 18), EF_NO_RANK_INDEX) && is_value(ef_predecessor(w, len, 19), 13), "predecessor with no index");
+    must(is_value(ef_predecessor(w, len, 20), 13), "predecessor at the universe with no index");
     must(is_refused(ef_successor(w, len, 5), EF_NO_RANK_INDEX) && is_none(ef_successor(w, len, 20)), "successor with no index");
     EfAnswer ranks[2];
     must(is_value(ef_ranks(w, len, (const uint64_t[2]){4, 20}, 2, (uint64_t *)ranks, 4), 2), "ranks with no index");
@@ -228,6 +230,7 @@ static void without_rank(void) {
 
     EfAnswer built = ef_build(ef_new(20, 4, w, 16).builder, true, w, 16);
     must(built.kind == EF_VALUE && is_value(ef_is_empty(w, built.value), 1) && is_value(ef_len(w, built.value), 0), "an empty record");
+    must(is_none(ef_predecessor(w, built.value, 20)), "no predecessor in an empty record");
     must(is_none(ef_select(w, built.value, 0)) && is_value(ef_rank(w, built.value, 7), 0) && is_none(ef_successor(w, built.value, 0)), "and its answers");
 }
 

@@ -240,10 +240,9 @@ fn questions(image: &[u64], times: &[u64], universe: u64) {
         let answers = many(all, image, &values).unwrap();
         compare(name, &values, &answers, |v| Ok(by_list(v)), |v| one(alone, image, v));
     };
-    let inside = |v: u64, answer: Option<u64>| if v < universe { answer } else { None };
     check("rank", ef_ranks, ef_rank, &|v| (v <= universe).then(|| below(times, v)));
-    check("predecessor", ef_predecessors, ef_predecessor, &|v| inside(v, at_most(times, v)));
-    check("successor", ef_successors, ef_successor, &|v| inside(v, at_least(times, v)));
+    check("predecessor", ef_predecessors, ef_predecessor, &|v| at_most(times, v));
+    check("successor", ef_successors, ef_successor, &|v| at_least(times, v));
 
     check("binsearch", ef_binsearches, ef_binsearch, &|v| first_of(times, v));
     assert_eq!(many(ef_ranks, &image[1..], &values), Err(Refusal::Invalid));
