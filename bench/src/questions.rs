@@ -9,11 +9,12 @@ use crate::record::{at_a_million, name};
 use crate::table::{is_asked, Items, Table};
 use crate::{rust, Random, QUESTIONS};
 
-pub const ROWS: [&str; 9] = [
+pub const ROWS: [&str; 10] = [
     "select",
     "delta",
     "rank",
     "predecessor",
+    "predecessor from u on",
     "successor",
     "search, hit",
     "search, miss",
@@ -21,10 +22,11 @@ pub const ROWS: [&str; 9] = [
     "read_from",
 ];
 
-/// What is asked: numbers, values, values that are there and values that are not.
+/// What is asked: numbers, values below the universe and from it on, values that are there and values that are not.
 pub struct Questions {
     pub ks: Vec<u64>,
     pub values: Vec<u64>,
+    pub past: Vec<u64>,
     pub hits: Vec<u64>,
     pub misses: Vec<u64>,
 }
@@ -42,11 +44,13 @@ impl Questions {
             places.into_iter().map(|p| p as u64).collect()
         };
         let (ks, values, places) = (some(n), some(u), some(n));
+        let past = values.iter().map(|v| universe + v).collect();
         let hits = places.iter().map(|&k| times[k as usize]).collect();
         let misses = values.iter().filter_map(|&v| absent(times, v)).collect();
         Self {
             ks,
             values,
+            past,
             hits,
             misses,
         }
@@ -60,12 +64,15 @@ impl Questions {
             image,
         };
         let number = |k: Option<usize>| k.map(|k| k as u64);
-        let [select, delta, rank, predecessor, successor, hit, miss, walk, read] = ROWS;
+        let [select, delta, rank, predecessor, last, successor, hit, miss, walk, read] = ROWS;
         row(select, Some(1.0)).asked(table, &self.ks, port::SELECTS, |k| ef.select(k as usize));
         row(delta, Some(0.8)).asked(table, &self.ks, port::DELTAS, |k| ef.delta(k as usize));
         row(rank, Some(0.9)).asked(table, &self.values, port::RANKS, |v| number(ef.rank(v)));
         let before = |v| ef.predecessor(v);
         row(predecessor, Some(0.6)).asked(table, &self.values, port::PREDECESSORS, before);
+        // The Rust has none there: its user asks for the last time.
+        let last_time = |_| ef.select(ef.len() - 1);
+        row(last, None).asked(table, &self.past, port::PREDECESSORS, last_time);
         let after = |v| ef.successor(v);
         row(successor, Some(0.6)).asked(table, &self.values, port::SUCCESSORS, after);
         let search = |v| number(ef.binsearch(v));
