@@ -70,9 +70,15 @@ impl Questions {
         row(rank, Some(0.9)).asked(table, &self.values, port::RANKS, |v| number(ef.rank(v)));
         let before = |v| ef.predecessor(v);
         row(predecessor, Some(0.6)).asked(table, &self.values, port::PREDECESSORS, before);
-        // The Rust has none there: its user asks for the last time.
-        let last_time = |_| ef.select(ef.len() - 1);
-        row(last, None).asked(table, &self.past, port::PREDECESSORS, last_time);
+        // The Rust has none from the universe on: its user asks for the last time there.
+        let at_or_before = |v| {
+            if v < ef.universe() {
+                ef.predecessor(v)
+            } else {
+                ef.select(black_box(ef.len() - 1))
+            }
+        };
+        row(last, None).asked(table, &self.past, port::PREDECESSORS, at_or_before);
         let after = |v| ef.successor(v);
         row(successor, Some(0.6)).asked(table, &self.values, port::SUCCESSORS, after);
         let search = |v| number(ef.binsearch(v));

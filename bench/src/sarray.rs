@@ -73,6 +73,7 @@ impl Vector {
             values: places,
             hits,
             misses,
+            ..
         } = &self.questions;
         let bit = |p| sarray.access(p as usize).map(u64::from);
         self.asked(table, hit, 1.0, hits, port::ACCESSES, bit);
