@@ -7,9 +7,9 @@ ghost use Prim.Native.Nat.{_-_, _<_};
 ghost use lib.ListN.{length, getD};
 ghost use Rattle.broadword.specs.Places.{SelectInByte, Debruijn64};
 ghost use Rattle.elias_fano.specs.Accept.{times, ofValue};
-ghost use Rattle.elias_fano.specs.Ask.{Predecessor, Successor, nth, greatest, asked, query};
+ghost use Rattle.elias_fano.specs.Ask.{Predecessor, Successor, nth, below, greatest, asked, query};
 ghost use Rattle.elias_fano.specs.Opening.{Open, OneAt};
-ghost use Rattle.elias_fano_queries.specs.Demands.{Rankable, Behind};
+ghost use Rattle.elias_fano_queries.specs.Demands.{IsOpen, Behind};
 use crate::rank::rank_within;
 use bit_words::first_from;
 use bit_words::last_before;
@@ -77,12 +77,11 @@ fn last_value(image: &[u64], p: Parts, table: &[u8; 2048]) -> Value
     select_opened(image, p, m - 1, table)
 }
 
-// The last value below t, if there is one: rank counts those up to it.
-fn last_below(image: &[u64], p: Parts, t: u64, table: &[u8; 2048]) -> Value
-    requires { ⌜ (Rankable (now image) p (now table) × (0 < t) × (t < p .universe)) ⌝ }
+// The last value below t, if there is one; k values are.
+fn last_below(image: &[u64], p: Parts, k: usize, t: u64) -> Value
+    requires { ⌜ (IsOpen (now image) p × (0 < t) × (t < p .universe) × (k ≡ below t (times (now image)))) ⌝ }
     ensures { λ r. ⌜ ofValue r ≡ greatest (t - 1) (times (now (image .entry))) ⌝ }
 {
-    let k = rank_within(image, p, t, table);
     if k == 0 {
         return Value::Nothing;
     }
@@ -106,7 +105,8 @@ pub fn predecessor_opened(image: &[u64], p: Parts, val: u64, table: &[u8; 2048])
     if !p.rank {
         return Value::Refused(Refusal::NoRankIndex);
     }
-    last_below(image, p, after, table)
+    let k = rank_within(image, p, after, table);
+    last_below(image, p, k, after)
 }
 
 // The smallest value at or above val, of an opened image.

@@ -26,11 +26,14 @@ next c = ⊎-elim (λ w. (omega arith, omega arith)) (λ w. absurd (omega arith)
 returns-2 : tie.Need-returns-2
 returns-2 c = let s = c .before .before .before .before .before .before .before in answering.predecessor-8 (s .args .image .now) (s .pre .ok) (s .args .p) (s .pre .parts) (s .args .val) (let n = next (c .before .before) in omega (arith, n .0, n .1)) (c .if3 .taken)
 
+rank-within-requires : tie.Need-rank-within-requires
+rank-within-requires c κs = let s = c .before .before .before .before .before .before .before in (record { opened = s .pre; ranked = not-false _ (c .if3 .left) }, next (c .before .before) .1)
+
 last-below-requires : tie.Need-last-below-requires
-last-below-requires c κs = let s = c .before .before .before .before .before .before .before in let n = next (c .before .before) in (record { opened = s .pre; ranked = not-false _ (c .if3 .left) }, omega (arith, n .0), n .1)
+last-below-requires c κs = let s = c .before .before .before .before .before .before .before .before in let n = next (c .before .before .before) in (record { ok = s .pre .ok; parts = s .pre .parts }, omega (arith, n .0), n .1, c .rank-within .ensures)
 
 returns-3 : tie.Need-returns-3
-returns-3 c = let s = c .before .before .before .before .before .before .before .before in answering.predecessor-is (s .args .image .now) (s .pre .ok) (s .args .p) (s .pre .parts) (s .args .val) (c .before .if3 .left) _ (next (c .before .before .before) .0) _ (c .last-below .ensures)
+returns-3 c = let s = c .before .before .before .before .before .before .before .before .before in answering.predecessor-is (s .args .image .now) (s .pre .ok) (s .args .p) (s .pre .parts) (s .args .val) (c .before .before .if3 .left) _ (next (c .before .before .before .before) .0) _ (c .last-below .ensures)
 
 pub predecessor-opened-spec : {M : Type 1} → statement M
-predecessor-opened-spec = tie.close (tie.spec add-after last-value-requires returns returns-2 last-below-requires returns-3)
+predecessor-opened-spec = tie.close (tie.spec add-after last-value-requires returns returns-2 rank-within-requires last-below-requires returns-3)
