@@ -77,7 +77,7 @@ fn last_value(image: &[u64], p: Parts, table: &[u8; 2048]) -> Value
     select_opened(image, p, m - 1, table)
 }
 
-// The last value below t, if there is one; k values are.
+// The last value below t, if there is one: k values are below t.
 fn last_below(image: &[u64], p: Parts, k: usize, t: u64) -> Value
     requires { ⌜ (IsOpen (now image) p × (0 < t) × (t < p .universe) × (k ≡ below t (times (now image)))) ⌝ }
     ensures { λ r. ⌜ ofValue r ≡ greatest (t - 1) (times (now (image .entry))) ⌝ }
