@@ -1,12 +1,13 @@
 -- `elias_fano_queries::neighbours::last_value` meets its contract.
 -- Assumes nothing.
 use borrow.Author.Needs.{needs}
+use native.Mathlib.Omega.{arith}
 use Rattle.elias_fano_queries.proofs.Answering as answering
 use Rattle.elias_fano_queries.proofs.neighbours.last_value.Statement.{statement}
 use Rattle.elias_fano_queries.proofs.neighbours.last_value.Tie as tie
 
 returns : tie.Need-returns
-returns c = let s = c .before .before in answering.no-last (s .args .image .now) (s .pre .ok) (s .args .p) (s .pre .parts) (c .if1 .taken)
+returns c = let s = c .before .before in answering.no-last (s .args .image .now) (s .pre .ok) (s .args .p) (s .pre .parts) (omega (arith, c .if1 .taken))
 
 sub-select-opened : tie.Need-sub-select-opened
 sub-select-opened c = search needs
