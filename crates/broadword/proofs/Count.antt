@@ -1,9 +1,11 @@
 -- Laws of `bit` and `count`. Assumes nothing.
 use mathlib.Core.Path.{_≡_, refl, sym, ap, ap₂, _∙_}
 use Prim.Native.Nat.{ℕ, zero, suc, _+_, _*_, _/_, _%_, _^_, _≤_, _<_, zero-le}
-use native.Mathlib.Nat.{le-refl, lt-suc-self, le-step, add-suc, add-zero, add-comm, add-assoc, div-div-eq-div-mul, pow-succ', div-eq-of-lt, div-one, le-dest, not-suc-le-zero, zero-mul, suc-mul}
+use native.Mathlib.Nat.{le-refl, lt-suc-self, le-step, add-suc, add-zero, add-comm, add-assoc, div-div-eq-div-mul, pow-suc, pow-succ', div-eq-of-lt, div-one, le-dest, not-suc-le-zero, zero-mul, suc-mul}
 use native.Mathlib.Decide.{le-ind}
 use native.Mathlib.Omega.{arith}
+use lib.Count as digits
+use lib.Count.{ones-step, ones-ones}
 use lib.Pow.{shr-shr, field, mod-mod-pow}
 use Rattle.broadword.specs.Fields.{digit}
 use Rattle.broadword.specs.Bits.{bit, count, ones}
@@ -59,6 +61,16 @@ pub count-first : (f : ℕ → ℕ) (n : ℕ) → count f (suc n) ≡ f zero + c
 unfolding count
 count-first f zero = add-comm zero (f zero)
 count-first f (suc n) = ap (λ (x : ℕ). x + f (suc n)) (count-first f n) ∙ add-assoc (f zero) (count (λ i. f (suc i)) n) (f (suc n))
+
+-- the language's count of ones, which takes the digits lowest first
+pub count-ones : (n x : ℕ) → x < 2 ^ n → digits.ones x ≡ ones x n
+unfolding count
+count-ones zero x h = let e : x ≡ 0 = omega arith in ap digits.ones e ∙ ones-ones 0
+count-ones (suc n) x h =
+    let p = pow-suc 2 n in
+    ones-step x
+    ∙ ap₂ (λ (y z : ℕ). y + z) (sym (bit-low x)) (count-ones n (x / 2) (omega arith) ∙ count-same (bit (x / 2)) (λ i. bit x (suc i)) n (λ i _. sym (bit-half x i)))
+    ∙ sym (count-first (bit x) n)
 
 -- ---- the bits of a field
 

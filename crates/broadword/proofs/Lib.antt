@@ -5,7 +5,6 @@ pub mod Fields
 pub mod Find
 pub mod Lowest
 pub mod Product
-pub mod Smear
 pub mod Spread
 pub mod Table
 pub mod Threshold

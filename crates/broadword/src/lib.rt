@@ -6,7 +6,7 @@
 ghost use mathlib.Core.Path.{_≡_};
 ghost use Prim.Native.Nat.{ℕ, _*_, _%_, _^_, _<_};
 ghost use lib.Dec.{leb};
-ghost use Rattle.broadword.specs.Bits.{bit, count, ones};
+ghost use Rattle.broadword.specs.Bits.{bit, ones};
 ghost use Rattle.broadword.specs.Fields.{digit, word, flag, LowBytes};
 ghost use Rattle.broadword.specs.Places.{last, select, orElse, SelectInByte, Debruijn64};
 ghost use Rattle.broadword.specs.declared.Found.the-variants.{At};
@@ -82,19 +82,11 @@ fn byte_counts(x: u64) -> u64
     (b + (b >> 4)) & (0x0f * ONES_STEP_8)
 }
 
-// The sum of the bytes, where it fits a byte.
-fn bytes_sum(x: u64) -> usize
-    requires { ⌜ count (digit 8 x) 8 < 256 ⌝ }
-    ensures { λ r. ⌜ r ≡ count (digit 8 x) 8 ⌝ }
-{
-    (wrapping_mul(ONES_STEP_8, x) >> 56) as usize
-}
-
 // The number of ones.
 pub fn popcount(x: u64) -> usize
     ensures { λ r. ⌜ r ≡ ones x 64 ⌝ }
 {
-    bytes_sum(byte_counts(x))
+    u64::count_ones(x) as usize
 }
 
 fn wide(x: u8) -> usize
@@ -185,21 +177,14 @@ pub fn lsb(x: u64) -> Found
     lsb_by(&table, x)
 }
 
-// The place of the highest one: every bit below it is set, and then all but it cleared.
+// The place of the highest one.
 pub fn msb(x: u64) -> Found
     ensures { λ r. ⌜ r ≡ last (bit x) 64 ⌝ }
 {
     if x == 0 {
-        return Found::Nothing;
+        return Found::Nothing; // no highest one
     }
-    let mut v = x;
-    v |= v >> 1;
-    v |= v >> 2;
-    v |= v >> 4;
-    v |= v >> 8;
-    v |= v >> 16;
-    v |= v >> 32;
-    v ^= v >> 1;
-    let table = debruijn64_table();
-    Found::At(bit_position(&table, v))
+    let zeros = u64::leading_zeros(x);
+    let place = 63 - zeros;
+    Found::At(place as usize)
 }
