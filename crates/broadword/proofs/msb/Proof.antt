@@ -18,9 +18,9 @@ returns : tie.Need-returns
 returns c = sym (ap (λ (x : ℕ). last (bit x) 64) (c .if1 .taken) ∙ last-none (bit 0) 64 (λ i _. bit-above 0 i (pow-pos i)))
 
 -- the place that the leading zeros leave is that of the last one
-highest : (x place : ℕ) → 0 < x → x < 2 ^ 64 → leadingZeros 64 x + suc place ≡ 64 → last (bit x) 64 ≡ At place
+below-zeros : (x place : ℕ) → 0 < x → x < 2 ^ 64 → leadingZeros 64 x + suc place ≡ 64 → last (bit x) 64 ≡ At place
 unfolding bit
-highest x place z h e =
+below-zeros x place z h e =
     let t = leading-top 64 x z h in
     let same : t .0 ≡ place = omega (arith, t .1) in
     let lo : 2 ^ place ≤ x = subst (λ (j : ℕ). 2 ^ j ≤ x) same (t .2) in
@@ -36,7 +36,7 @@ cast-t5 : tie.Need-cast-t5
 cast-t5 c = omega (arith, sub-place c)
 
 returns-2 : tie.Need-returns-2
-returns-2 c = sym (highest (c .before .args .x) _ (pos-of-ne-zero (c .if1 .left)) (c .before .fits .x .fits) (omega (arith, sub-place c)))
+returns-2 c = sym (below-zeros (c .before .args .x) _ (pos-of-ne-zero (c .if1 .left)) (c .before .fits .x .fits) (omega (arith, sub-place c)))
 
 pub msb-spec : {M : Type 1} → statement M
 msb-spec = tie.close (tie.spec returns sub-place cast-t5 returns-2)
