@@ -10,9 +10,11 @@ fn main() {
         println!("cargo:rustc-link-lib=static={library}");
     }
     if std::env::var("CARGO_FEATURE_BEFORE").is_ok() {
-        println!("cargo:rerun-if-changed={here}/target/before/libbefore.a");
         println!("cargo:rustc-link-search=native={here}/target/before");
-        println!("cargo:rustc-link-lib=static=before");
+        for library in ["bench_exports", "ffi"] {
+            println!("cargo:rerun-if-changed={here}/target/before/libbefore_{library}.a");
+            println!("cargo:rustc-link-lib=static=before_{library}");
+        }
     }
     if std::env::var("CARGO_FEATURE_SDSL").is_ok() {
         println!("cargo:rerun-if-changed={here}/target/sdsl/libsdsl_side.a");

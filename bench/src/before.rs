@@ -2,21 +2,202 @@
 
 use std::hint::black_box;
 
-use crate::port::{self, Answer, Many};
+use crate::port::{self, Answer, Build, Many, PORT};
 use crate::questions::absent;
-use crate::record::{burner, LONGEST};
+use crate::record::{self, burner, Record, LONGEST};
 use crate::table::{is_asked, Table};
-use crate::{rust, Random, QUESTIONS, SIZES};
+use crate::{rust, Bits, Random, QUESTIONS, SIZES};
 
-extern "C" {
-    fn before_ef_binsearches(
-        i: *const u64,
-        n: usize,
-        a: *const u64,
-        m: usize,
-        o: *mut u64,
-        j: usize,
-    ) -> Answer;
+mod c {
+    use crate::port::{Answer, Builder};
+
+    extern "C" {
+        pub fn before_bench_popcount(words: *const u64, n: usize) -> u64;
+        pub fn before_bench_msb(words: *const u64, n: usize) -> u64;
+        pub fn before_bench_record_push(
+            universe: u64,
+            num_vals: u64,
+            times: *const u64,
+            n: usize,
+            buffer: *mut u64,
+            m: usize,
+        ) -> u64;
+        pub fn before_bench_record_walk(image: *const u64, n: usize, steps: usize) -> u64;
+        pub fn before_ef_build(builder: Builder, rank: bool, buffer: *mut u64, n: usize) -> Answer;
+        pub fn before_ef_open(image: *const u64, n: usize) -> u64;
+        pub fn before_ef_selects(
+            i: *const u64,
+            n: usize,
+            a: *const u64,
+            m: usize,
+            o: *mut u64,
+            j: usize,
+        ) -> Answer;
+        pub fn before_ef_deltas(
+            i: *const u64,
+            n: usize,
+            a: *const u64,
+            m: usize,
+            o: *mut u64,
+            j: usize,
+        ) -> Answer;
+        pub fn before_ef_ranks(
+            i: *const u64,
+            n: usize,
+            a: *const u64,
+            m: usize,
+            o: *mut u64,
+            j: usize,
+        ) -> Answer;
+        pub fn before_ef_predecessors(
+            i: *const u64,
+            n: usize,
+            a: *const u64,
+            m: usize,
+            o: *mut u64,
+            j: usize,
+        ) -> Answer;
+        pub fn before_ef_successors(
+            i: *const u64,
+            n: usize,
+            a: *const u64,
+            m: usize,
+            o: *mut u64,
+            j: usize,
+        ) -> Answer;
+        pub fn before_ef_binsearches(
+            i: *const u64,
+            n: usize,
+            a: *const u64,
+            m: usize,
+            o: *mut u64,
+            j: usize,
+        ) -> Answer;
+    }
+}
+
+const BEFORE: Build = Build {
+    popcount: c::before_bench_popcount,
+    msb: c::before_bench_msb,
+    record_push: c::before_bench_record_push,
+    record_build: c::before_ef_build,
+    record_open: c::before_ef_open,
+    record_walk: c::before_bench_record_walk,
+    selects: c::before_ef_selects,
+    deltas: c::before_ef_deltas,
+    ranks: c::before_ef_ranks,
+    predecessors: c::before_ef_predecessors,
+    successors: c::before_ef_successors,
+    binsearches: c::before_ef_binsearches,
+};
+
+/// The words of some bits.
+pub fn words(table: &mut Table, b: &Bits) {
+    let (w, n) = (&b.words[..], b.words.len());
+    let name = |f: &str| format!("{f}, {}", b.name);
+    let count = |build: &Build| build.popcount(black_box(w));
+    table.same(
+        &name("popcount"),
+        n,
+        None,
+        || count(&BEFORE),
+        || count(&PORT),
+    );
+    let highest = |build: &Build| build.msb(black_box(w));
+    table.same(
+        &name("msb"),
+        n,
+        None,
+        || highest(&BEFORE),
+        || highest(&PORT),
+    );
+}
+
+/// A record pushed, built, opened, walked over and asked.
+pub fn whole(table: &mut Table, r: &Record) {
+    let (n, u) = (r.times.len(), r.universe);
+    let name = |row| record::name(row, n);
+    let pushed = |build: &'static Build| {
+        let mut buffer = r.pushed.clone();
+        move || build.record_push(u, black_box(&r.times), &mut buffer)
+    };
+    table.row(&name("push"), n, None, pushed(&BEFORE), pushed(&PORT));
+    let built = |build: &'static Build| {
+        (
+            || r.pushed.clone(),
+            |mut words: Vec<u64>| {
+                build.record_build(u, n, r.last, true, &mut words);
+                words
+            },
+        )
+    };
+    table.row_with(
+        &name("build with rank"),
+        n,
+        None,
+        built(&BEFORE),
+        built(&PORT),
+    );
+    let mut plain = r.pushed.clone();
+    let made = PORT.record_build(u, n, r.last, false, &mut plain);
+    plain.truncate(made);
+    for (row, image) in [("open", &plain), ("open with rank", &r.image)] {
+        let opened = |build: &Build| build.record_open(black_box(image));
+        table.same(&name(row), n, None, || opened(&BEFORE), || opened(&PORT));
+    }
+    let walked =
+        |build: &'static Build, steps| move || build.record_walk(black_box(&r.image), steps);
+    assert_eq!(walked(&BEFORE, n)(), walked(&PORT, n)());
+    table.row_after_both(
+        &name("walk"),
+        n,
+        None,
+        (walked(&BEFORE, n), walked(&BEFORE, 0)),
+        (walked(&PORT, n), walked(&PORT, 0)),
+    );
+    let q = &r.questions;
+    let mut asked = |row, args: &[u64], many: fn(&Build) -> Many| {
+        asked(table, &name(row), None, &r.image, args, many, |value| value);
+    };
+    asked("select", &q.ks, |b| b.selects);
+    asked("delta", &q.ks, |b| b.deltas);
+    asked("rank", &q.values, |b| b.ranks);
+    asked("predecessor", &q.values, |b| b.predecessors);
+    asked("successor", &q.values, |b| b.successors);
+}
+
+/// Both builds are asked the same; `seen` is what of an answer is compared. Each opens the image first, which is taken off.
+fn asked(
+    table: &mut Table,
+    what: &str,
+    target: Option<f64>,
+    image: &[u64],
+    args: &[u64],
+    many: fn(&Build) -> Many,
+    seen: impl Fn(u64) -> u64,
+) {
+    if !is_asked(what) {
+        return;
+    }
+    let ask = |build: &Build, args: &[u64], out: &mut [Answer]| {
+        port::record_ask(many(build), black_box(image), args, out)
+    };
+    let mut theirs = vec![Answer::default(); args.len()];
+    let mut ours = theirs.clone();
+    ask(&BEFORE, args, &mut theirs);
+    ask(&PORT, args, &mut ours);
+    let of = |a: &Answer| a.get().map(&seen);
+    assert!(ours.iter().map(of).eq(theirs.iter().map(of)), "{what}");
+    table.row_after_both(
+        what,
+        args.len(),
+        target,
+        (
+            || ask(&BEFORE, args, &mut theirs),
+            || ask(&BEFORE, &[], &mut []),
+        ),
+        (|| ask(&PORT, args, &mut ours), || ask(&PORT, &[], &mut [])),
+    );
 }
 
 const ROWS: [&str; 2] = ["search, hit", "search, miss"];
@@ -90,38 +271,20 @@ impl List {
         })
     }
 
-    pub fn rows(&self, table: &mut Table) {
-        let [hit, miss] = ROWS.map(|row| format!("record {row}, {}", self.name));
-        self.searched(table, &hit, &self.hits);
-        self.searched(table, &miss, &self.misses);
-    }
-
     /// Among equal times the earlier port may find another than the first: the time at the index is compared.
-    fn searched(&self, table: &mut Table, what: &str, args: &[u64]) {
-        if !is_asked(what) {
-            return;
+    pub fn rows(&self, table: &mut Table) {
+        let time = |k| self.times[k as usize];
+        for (row, args) in ROWS.into_iter().zip([&self.hits, &self.misses]) {
+            let what = format!("record {row}, {}", self.name);
+            asked(
+                table,
+                &what,
+                Some(TARGET),
+                &self.image,
+                args,
+                |b| b.binsearches,
+                time,
+            );
         }
-        let ask = |many: Many, args: &[u64], out: &mut [Answer]| {
-            port::record_ask(many, black_box(&self.image), args, out)
-        };
-        let mut theirs = vec![Answer::default(); args.len()];
-        let mut ours = theirs.clone();
-        ask(before_ef_binsearches, args, &mut theirs);
-        ask(port::BINSEARCHES, args, &mut ours);
-        let time = |a: &Answer| a.get().map(|k| self.times[k as usize]);
-        assert!(ours.iter().map(time).eq(theirs.iter().map(time)), "{what}");
-        table.row_after_both(
-            what,
-            args.len(),
-            Some(TARGET),
-            (
-                || ask(before_ef_binsearches, args, &mut theirs),
-                || ask(before_ef_binsearches, &[], &mut []),
-            ),
-            (
-                || ask(port::BINSEARCHES, args, &mut ours),
-                || ask(port::BINSEARCHES, &[], &mut []),
-            ),
-        );
     }
 }

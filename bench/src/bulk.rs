@@ -4,7 +4,7 @@ use std::hint::black_box;
 
 use sucds::int_vectors::{Access, PrefixSummedEliasFano};
 
-use crate::port::{self, Answer, FromBits};
+use crate::port::{self, Answer, FromBits, PORT};
 use crate::record::{at_a_million, name};
 use crate::table::{is_asked, Table};
 use crate::{rust, Random, QUESTIONS};
@@ -131,15 +131,8 @@ impl Sums {
             self.places.len(),
             None,
             || rust::record_ask(|p| self.sums.access(p as usize), &self.places, &mut theirs),
-            || {
-                port::record_ask(
-                    port::DELTAS,
-                    black_box(&self.image),
-                    &self.places,
-                    &mut ours,
-                )
-            },
-            || port::record_ask(port::DELTAS, black_box(&self.image), &[], &mut []),
+            || port::record_ask(PORT.deltas, black_box(&self.image), &self.places, &mut ours),
+            || port::record_ask(PORT.deltas, black_box(&self.image), &[], &mut []),
         );
         let (mut walked, mut written) = (vec![0; n], vec![0; n]);
         table.row_after(

@@ -16,6 +16,7 @@ use std::hint::black_box;
 
 use sucds::bit_vectors::BitVector;
 
+use port::PORT;
 use questions::Equal;
 use record::Record;
 use table::Table;
@@ -77,6 +78,9 @@ impl Bits {
     }
 }
 
+/// Bits of which one in so many is set.
+const DENSITIES: [(&str, usize); 2] = [("half ones", 2), ("ones 1 in 64", 64)];
+
 fn in_words(table: &mut Table, b: &Bits, random: &mut Random) {
     let (w, n) = (&b.words[..], b.words.len());
     let name = |f: &str| format!("{f}, {}", b.name);
@@ -89,7 +93,7 @@ fn in_words(table: &mut Table, b: &Bits, random: &mut Random) {
         n,
         Some(1.1),
         || rust::popcount(black_box(w)),
-        || port::popcount(black_box(w)),
+        || PORT.popcount(black_box(w)),
     );
     table.same(
         &name("lsb"),
@@ -103,7 +107,7 @@ fn in_words(table: &mut Table, b: &Bits, random: &mut Random) {
         n,
         Some(1.1),
         || rust::msb(black_box(w)),
-        || port::msb(black_box(w)),
+        || PORT.msb(black_box(w)),
     );
     let select = || rust::select_in_word(black_box(w), &ks);
     let lent = || port::select_in_word_by(black_box(w), &ks);
@@ -185,10 +189,10 @@ fn index(table: &mut Table, b: &Bits, over_one: bool, queries: usize, random: &m
 
 fn round(table: &mut Table) {
     let random = &mut Random(SEED);
-    for (name, rarity) in [("half ones", 2), ("ones 1 in 64", 64)] {
+    for (name, rarity) in DENSITIES {
         in_words(table, &Bits::new(name, 1 << 20, rarity, random), random);
     }
-    for (name, rarity) in [("half ones", 2), ("ones 1 in 64", 64)] {
+    for (name, rarity) in DENSITIES {
         in_bits(table, &Bits::new(name, 4086, rarity, random), 1000, random);
         in_bits(
             table,
@@ -247,7 +251,7 @@ fn main() {
         vectors.iter().for_each(|v| v.opened(table))
     });
     second_peer(random);
-    earlier_port(random);
+    earlier_port(&records, random);
 }
 
 /// A table beside another peer than the Rust.
@@ -273,10 +277,15 @@ fn second_peer(random: &mut Random) {
 fn second_peer(_: &mut Random) {}
 
 #[cfg(feature = "before")]
-fn earlier_port(random: &mut Random) {
+fn earlier_port(records: &[Record], random: &mut Random) {
+    let bits = DENSITIES.map(|(name, rarity)| Bits::new(name, 1 << 20, rarity, random));
     let lists = before::lists(random);
-    further("before", |table| lists.iter().for_each(|l| l.rows(table)));
+    further("before", |table| {
+        bits.iter().for_each(|b| before::words(table, b));
+        records.iter().for_each(|r| before::whole(table, r));
+        lists.iter().for_each(|l| l.rows(table));
+    });
 }
 
 #[cfg(not(feature = "before"))]
-fn earlier_port(_: &mut Random) {}
+fn earlier_port(_: &[Record], _: &mut Random) {}

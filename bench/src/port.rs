@@ -223,16 +223,91 @@ mod c {
     }
 }
 
-pub fn popcount(words: &[u64]) -> u64 {
-    unsafe { c::bench_popcount(words.as_ptr(), words.len()) }
+type OfWords = unsafe extern "C" fn(*const u64, usize) -> u64;
+type Push = unsafe extern "C" fn(u64, u64, *const u64, usize, *mut u64, usize) -> u64;
+type Finish = unsafe extern "C" fn(Builder, bool, *mut u64, usize) -> Answer;
+type Walk = unsafe extern "C" fn(*const u64, usize, usize) -> u64;
+
+/// A build of the port, by those of its functions that stand beside those of an earlier build.
+pub struct Build {
+    pub popcount: OfWords,
+    pub msb: OfWords,
+    pub record_push: Push,
+    pub record_build: Finish,
+    pub record_open: OfWords,
+    pub record_walk: Walk,
+    pub selects: Many,
+    pub deltas: Many,
+    pub ranks: Many,
+    pub predecessors: Many,
+    pub successors: Many,
+    pub binsearches: Many,
+}
+
+/// That of today.
+pub const PORT: Build = Build {
+    popcount: c::bench_popcount,
+    msb: c::bench_msb,
+    record_push: c::bench_record_push,
+    record_build: c::ef_build,
+    record_open: c::ef_open,
+    record_walk: c::bench_record_walk,
+    selects: c::ef_selects,
+    deltas: c::ef_deltas,
+    ranks: c::ef_ranks,
+    predecessors: c::ef_predecessors,
+    successors: c::ef_successors,
+    binsearches: c::ef_binsearches,
+};
+
+impl Build {
+    pub fn popcount(&self, words: &[u64]) -> u64 {
+        unsafe { (self.popcount)(words.as_ptr(), words.len()) }
+    }
+
+    pub fn msb(&self, words: &[u64]) -> u64 {
+        unsafe { (self.msb)(words.as_ptr(), words.len()) }
+    }
+
+    /// How many of the times a fresh record took.
+    pub fn record_push(&self, universe: u64, times: &[u64], buffer: &mut [u64]) -> u64 {
+        let (n, at, m) = (times.len(), buffer.as_mut_ptr(), buffer.len());
+        unsafe { (self.record_push)(universe, n as u64, times.as_ptr(), n, at, m) }
+    }
+
+    /// How many words the image of a full record has.
+    pub fn record_build(
+        &self,
+        universe: u64,
+        num_vals: usize,
+        last: u64,
+        rank: bool,
+        buffer: &mut [u64],
+    ) -> usize {
+        let builder = Builder {
+            universe,
+            num_vals: num_vals as u64,
+            num_pushed: num_vals as u64,
+            last,
+        };
+        let (at, m) = (buffer.as_mut_ptr(), buffer.len());
+        let built = unsafe { (self.record_build)(builder, rank, at, m) };
+        built.get().expect("a length") as usize
+    }
+
+    /// 0 if the words are an image.
+    pub fn record_open(&self, image: &[u64]) -> u64 {
+        unsafe { (self.record_open)(image.as_ptr(), image.len()) }
+    }
+
+    /// The sum of the times that so many steps from the first give.
+    pub fn record_walk(&self, image: &[u64], steps: usize) -> u64 {
+        unsafe { (self.record_walk)(image.as_ptr(), image.len(), steps) }
+    }
 }
 
 pub fn lsb(words: &[u64]) -> u64 {
     unsafe { c::bench_lsb(words.as_ptr(), words.len()) }
-}
-
-pub fn msb(words: &[u64]) -> u64 {
-    unsafe { c::bench_msb(words.as_ptr(), words.len()) }
 }
 
 pub fn select_in_word_by(words: &[u64], ks: &[usize]) -> u64 {
@@ -301,48 +376,6 @@ pub unsafe fn select(
     )
 }
 
-/// How many of the times a fresh record took.
-pub fn record_push(universe: u64, times: &[u64], buffer: &mut [u64]) -> u64 {
-    unsafe {
-        c::bench_record_push(
-            universe,
-            times.len() as u64,
-            times.as_ptr(),
-            times.len(),
-            buffer.as_mut_ptr(),
-            buffer.len(),
-        )
-    }
-}
-
-/// How many words the image of a full record has.
-pub fn record_build(
-    universe: u64,
-    num_vals: usize,
-    last: u64,
-    rank: bool,
-    buffer: &mut [u64],
-) -> usize {
-    let builder = Builder {
-        universe,
-        num_vals: num_vals as u64,
-        num_pushed: num_vals as u64,
-        last,
-    };
-    let built = unsafe { c::ef_build(builder, rank, buffer.as_mut_ptr(), buffer.len()) };
-    built.get().expect("a length") as usize
-}
-
-/// 0 if the words are an image.
-pub fn record_open(image: &[u64]) -> u64 {
-    unsafe { c::ef_open(image.as_ptr(), image.len()) }
-}
-
-/// The sum of the times that so many steps from the first give.
-pub fn record_walk(image: &[u64], steps: usize) -> u64 {
-    unsafe { c::bench_record_walk(image.as_ptr(), image.len(), steps) }
-}
-
 /// How many times from the first on were written.
 pub fn record_read(image: &[u64], out: &mut [u64]) -> u64 {
     let read =
@@ -380,13 +413,6 @@ pub fn sums_read(image: &[u64], out: &mut [u64]) -> u64 {
 /// Many questions at once.
 pub type Many =
     unsafe extern "C" fn(*const u64, usize, *const u64, usize, *mut u64, usize) -> Answer;
-
-pub const SELECTS: Many = c::ef_selects;
-pub const DELTAS: Many = c::ef_deltas;
-pub const RANKS: Many = c::ef_ranks;
-pub const PREDECESSORS: Many = c::ef_predecessors;
-pub const SUCCESSORS: Many = c::ef_successors;
-pub const BINSEARCHES: Many = c::ef_binsearches;
 
 /// How many questions were answered: all.
 pub fn record_ask(ask: Many, image: &[u64], args: &[u64], out: &mut [Answer]) -> u64 {

@@ -4,7 +4,7 @@ use std::hint::black_box;
 
 use sucds::mii_sequences::EliasFano;
 
-use crate::port::{self, Answer, Many};
+use crate::port::{self, Answer, Many, PORT};
 use crate::record::{at_a_million, name};
 use crate::table::{is_asked, Items, Table};
 use crate::{rust, Random, QUESTIONS};
@@ -65,11 +65,11 @@ impl Questions {
         };
         let number = |k: Option<usize>| k.map(|k| k as u64);
         let [select, delta, rank, predecessor, last, successor, hit, miss, walk, read] = ROWS;
-        row(select, Some(1.0)).asked(table, &self.ks, port::SELECTS, |k| ef.select(k as usize));
-        row(delta, Some(0.8)).asked(table, &self.ks, port::DELTAS, |k| ef.delta(k as usize));
-        row(rank, Some(0.9)).asked(table, &self.values, port::RANKS, |v| number(ef.rank(v)));
+        row(select, Some(1.0)).asked(table, &self.ks, PORT.selects, |k| ef.select(k as usize));
+        row(delta, Some(0.8)).asked(table, &self.ks, PORT.deltas, |k| ef.delta(k as usize));
+        row(rank, Some(0.9)).asked(table, &self.values, PORT.ranks, |v| number(ef.rank(v)));
         let before = |v| ef.predecessor(v);
-        row(predecessor, Some(0.6)).asked(table, &self.values, port::PREDECESSORS, before);
+        row(predecessor, Some(0.6)).asked(table, &self.values, PORT.predecessors, before);
         // The Rust has none from the universe on: its user asks for the last time there.
         let at_or_before = |v| {
             if v < ef.universe() {
@@ -78,9 +78,9 @@ impl Questions {
                 ef.select(black_box(ef.len() - 1))
             }
         };
-        row(last, None).asked(table, &self.past, port::PREDECESSORS, at_or_before);
+        row(last, None).asked(table, &self.past, PORT.predecessors, at_or_before);
         let after = |v| ef.successor(v);
-        row(successor, Some(0.6)).asked(table, &self.values, port::SUCCESSORS, after);
+        row(successor, Some(0.6)).asked(table, &self.values, PORT.successors, after);
         let search = |v| number(ef.binsearch(v));
         row(hit, Some(0.9)).searched(table, times, &self.hits, search);
         row(miss, Some(0.9)).searched(table, times, &self.misses, search);
@@ -115,7 +115,7 @@ impl Row<'_> {
         one: impl Fn(u64) -> Option<u64>,
     ) {
         let time = |k| times[k as usize];
-        let ask = of_record(port::BINSEARCHES);
+        let ask = of_record(PORT.binsearches);
         self.asked_as(table, args.len().into(), args, ask, one, time);
     }
 
@@ -152,9 +152,9 @@ impl Row<'_> {
 
     fn walked(&self, table: &mut Table, n: usize, ef: &EliasFano) {
         let rust = || rust::record_walk(black_box(ef), n);
-        let port = || port::record_walk(black_box(self.image), n);
+        let port = || PORT.record_walk(black_box(self.image), n);
         assert_eq!(rust(), port(), "{}", self.what);
-        let before = || port::record_walk(black_box(self.image), 0);
+        let before = || PORT.record_walk(black_box(self.image), 0);
         table.row_after(&self.what, n, self.target, rust, port, before);
     }
 
@@ -209,6 +209,6 @@ impl Equal {
         };
         let rank = |v| self.ef.rank(v).map(|k| k as u64);
         let args = vec![500_000_000; 100_000];
-        row.asked_as(table, items, &args, of_record(port::RANKS), rank, |k| k);
+        row.asked_as(table, items, &args, of_record(PORT.ranks), rank, |k| k);
     }
 }

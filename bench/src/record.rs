@@ -4,9 +4,10 @@ use std::hint::black_box;
 
 use sucds::mii_sequences::{EliasFano, EliasFanoBuilder};
 
+use crate::port::PORT;
 use crate::questions::{self, Questions};
 use crate::table::{is_asked, Table};
-use crate::{port, rust, Random};
+use crate::{rust, Random};
 
 /// The longest time between two readings, in seconds.
 pub const LONGEST: usize = 1800;
@@ -15,14 +16,14 @@ const ROWS: [&str; 4] = ["push", "build", "build with rank", "open with rank"];
 
 /// Both sides' record of one list.
 pub struct Record {
-    times: Vec<u64>,
-    last: u64,
-    universe: u64,
+    pub times: Vec<u64>,
+    pub last: u64,
+    pub universe: u64,
     builder: EliasFanoBuilder,
     record: EliasFano,
-    pushed: Vec<u64>,
-    image: Vec<u64>,
-    questions: Questions,
+    pub pushed: Vec<u64>,
+    pub image: Vec<u64>,
+    pub questions: Questions,
 }
 
 /// Times in order, with gaps of a burner.
@@ -63,13 +64,13 @@ impl Record {
         let image = rust::image_words(&record, n);
 
         let mut pushed = vec![u64::MAX; image.len()];
-        assert_eq!(port::record_push(universe, &times, &mut pushed), n as u64);
+        assert_eq!(PORT.record_push(universe, &times, &mut pushed), n as u64);
         let (high, low) = (builder.high_bits.words(), builder.low_bits.words());
         let filed = [&[0; 6], high, low].concat();
         assert_eq!(pushed[..filed.len()], filed, "push, {n} times");
         for (record, rank) in [(&plain, false), (&record, true)] {
             let mut words = pushed.clone();
-            let made = port::record_build(universe, n, last, rank, &mut words);
+            let made = PORT.record_build(universe, n, last, rank, &mut words);
             words.truncate(made);
             assert_eq!(
                 words,
@@ -77,7 +78,7 @@ impl Record {
                 "rank {rank}, {n} times"
             );
         }
-        assert_eq!(port::record_open(&image), 0);
+        assert_eq!(PORT.record_open(&image), 0);
 
         let questions = Questions::new(&times, universe, random);
         Some(Self {
@@ -106,7 +107,7 @@ impl Record {
             ),
             (
                 || (),
-                |()| port::record_push(self.universe, black_box(&self.times), &mut buffer),
+                |()| PORT.record_push(self.universe, black_box(&self.times), &mut buffer),
             ),
         );
         let rust_build = |rank| {
@@ -119,7 +120,7 @@ impl Record {
             (
                 || self.pushed.clone(),
                 move |mut words: Vec<u64>| {
-                    port::record_build(self.universe, n, self.last, rank, &mut words);
+                    PORT.record_build(self.universe, n, self.last, rank, &mut words);
                     words
                 },
             )
@@ -137,7 +138,7 @@ impl Record {
             n,
             at_a_million(n, 0.1),
             rust_build(true),
-            (|| (), |()| port::record_open(black_box(&self.image))),
+            (|| (), |()| PORT.record_open(black_box(&self.image))),
         );
         self.questions
             .rows(table, &self.times, &self.record, &self.image);

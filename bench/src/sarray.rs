@@ -6,7 +6,7 @@ use sucds::bit_vectors::prelude::*;
 use sucds::bit_vectors::SArray;
 
 use crate::bulk::Bits;
-use crate::port::{self, Answer, SarrayMany};
+use crate::port::{self, Answer, SarrayMany, PORT};
 use crate::questions::{Questions, Row};
 use crate::record::at_a_million;
 use crate::table::{is_asked, Table};
@@ -50,7 +50,7 @@ impl Vector {
             return None;
         }
         let bits = Bits::new(n, RARITY, port::SARRAY_FROM_BITS, random);
-        assert_eq!(port::record_open(&bits.image), 0);
+        assert_eq!(PORT.record_open(&bits.image), 0);
         assert_eq!(port::sarray_open(&bits.image, bits.len), 0);
         let sarray = rust::sarray_from_bits(&bits.words, bits.len);
         let places = rust::bits(&bits.words, bits.len).zip(0..);
@@ -117,7 +117,7 @@ impl Vector {
             &name(open, self.bits.n),
             self.bits.ones,
             at_a_million(self.bits.n, 1.1),
-            || port::record_open(black_box(image)),
+            || PORT.record_open(black_box(image)),
             || port::sarray_open(black_box(image), len),
         );
     }

@@ -3,7 +3,7 @@
 use std::ffi::c_void;
 use std::hint::black_box;
 
-use crate::port::{self, Answer};
+use crate::port::{self, Answer, PORT};
 use crate::record::at_a_million;
 use crate::table::{is_asked, Table};
 use crate::{rust, Random, QUESTIONS};
@@ -83,7 +83,7 @@ impl Strict {
         let record = rust::record_build(rust::record_push(universe, &times), true);
         let image = rust::image_words(&record, n);
         let mut pushed = vec![0; image.len()];
-        assert_eq!(port::record_push(universe, &times, &mut pushed), n as u64);
+        assert_eq!(PORT.record_push(universe, &times, &mut pushed), n as u64);
         let mut some = |below| -> Vec<u64> {
             let places = random.places(QUESTIONS, below);
             places.into_iter().map(|p| p as u64).collect()
@@ -106,7 +106,7 @@ impl Strict {
         let [build, both, select, rank] = ROWS.map(|row| name(row, n));
         let bulk = || (|| (), |()| Side::new(black_box(&self.times)));
         let finish = |mut words: Vec<u64>| {
-            port::record_build(self.universe, n, last, true, &mut words);
+            PORT.record_build(self.universe, n, last, true, &mut words);
             words
         };
         table.row_with(
@@ -124,16 +124,16 @@ impl Strict {
             (
                 || vec![0; self.image.len()],
                 |mut words: Vec<u64>| {
-                    port::record_push(self.universe, black_box(&self.times), &mut words);
+                    PORT.record_push(self.universe, black_box(&self.times), &mut words);
                     finish(words)
                 },
             ),
         );
         let side = &self.side;
-        self.asked(table, &select, 0.75, &self.ks, port::SELECTS, |ks, out| {
+        self.asked(table, &select, 0.75, &self.ks, PORT.selects, |ks, out| {
             side.selects(ks, out)
         });
-        self.asked(table, &rank, 0.6, &self.values, port::RANKS, |vs, out| {
+        self.asked(table, &rank, 0.6, &self.values, PORT.ranks, |vs, out| {
             side.ranks(vs, out)
         });
     }
