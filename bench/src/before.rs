@@ -2,131 +2,39 @@
 
 use std::hint::black_box;
 
-use crate::port::{self, Answer, Build, Many, PORT};
+use crate::port::{self, linked, Answer, Many, Port, PORT};
 use crate::questions::absent;
 use crate::record::{self, burner, Record, LONGEST};
 use crate::table::{is_asked, Table};
 use crate::{rust, Bits, Random, QUESTIONS, SIZES};
 
-mod c {
-    use crate::port::{Answer, Builder};
-
-    extern "C" {
-        pub fn before_bench_popcount(words: *const u64, n: usize) -> u64;
-        pub fn before_bench_msb(words: *const u64, n: usize) -> u64;
-        pub fn before_bench_record_push(
-            universe: u64,
-            num_vals: u64,
-            times: *const u64,
-            n: usize,
-            buffer: *mut u64,
-            m: usize,
-        ) -> u64;
-        pub fn before_bench_record_walk(image: *const u64, n: usize, steps: usize) -> u64;
-        pub fn before_ef_build(builder: Builder, rank: bool, buffer: *mut u64, n: usize) -> Answer;
-        pub fn before_ef_open(image: *const u64, n: usize) -> u64;
-        pub fn before_ef_selects(
-            i: *const u64,
-            n: usize,
-            a: *const u64,
-            m: usize,
-            o: *mut u64,
-            j: usize,
-        ) -> Answer;
-        pub fn before_ef_deltas(
-            i: *const u64,
-            n: usize,
-            a: *const u64,
-            m: usize,
-            o: *mut u64,
-            j: usize,
-        ) -> Answer;
-        pub fn before_ef_ranks(
-            i: *const u64,
-            n: usize,
-            a: *const u64,
-            m: usize,
-            o: *mut u64,
-            j: usize,
-        ) -> Answer;
-        pub fn before_ef_predecessors(
-            i: *const u64,
-            n: usize,
-            a: *const u64,
-            m: usize,
-            o: *mut u64,
-            j: usize,
-        ) -> Answer;
-        pub fn before_ef_successors(
-            i: *const u64,
-            n: usize,
-            a: *const u64,
-            m: usize,
-            o: *mut u64,
-            j: usize,
-        ) -> Answer;
-        pub fn before_ef_binsearches(
-            i: *const u64,
-            n: usize,
-            a: *const u64,
-            m: usize,
-            o: *mut u64,
-            j: usize,
-        ) -> Answer;
-    }
-}
-
-const BEFORE: Build = Build {
-    popcount: c::before_bench_popcount,
-    msb: c::before_bench_msb,
-    record_push: c::before_bench_record_push,
-    record_build: c::before_ef_build,
-    record_open: c::before_ef_open,
-    record_walk: c::before_bench_record_walk,
-    selects: c::before_ef_selects,
-    deltas: c::before_ef_deltas,
-    ranks: c::before_ef_ranks,
-    predecessors: c::before_ef_predecessors,
-    successors: c::before_ef_successors,
-    binsearches: c::before_ef_binsearches,
-};
+const BEFORE: Port = linked!("before_");
 
 /// The words of some bits.
 pub fn words(table: &mut Table, b: &Bits) {
-    let (w, n) = (&b.words[..], b.words.len());
-    let name = |f: &str| format!("{f}, {}", b.name);
-    let count = |build: &Build| build.popcount(black_box(w));
-    table.same(
-        &name("popcount"),
-        n,
-        None,
-        || count(&BEFORE),
-        || count(&PORT),
-    );
-    let highest = |build: &Build| build.msb(black_box(w));
-    table.same(
-        &name("msb"),
-        n,
-        None,
-        || highest(&BEFORE),
-        || highest(&PORT),
-    );
+    let rows: [(&str, fn(&Port, &[u64]) -> u64); 2] =
+        [("popcount", Port::popcount), ("msb", Port::msb)];
+    for (row, f) in rows {
+        let what = format!("{row}, {}", b.name);
+        let of = |side| f(side, black_box(&b.words));
+        table.same(&what, b.words.len(), None, || of(&BEFORE), || of(&PORT));
+    }
 }
 
 /// A record pushed, built, opened, walked over and asked.
 pub fn whole(table: &mut Table, r: &Record) {
     let (n, u) = (r.times.len(), r.universe);
     let name = |row| record::name(row, n);
-    let pushed = |build: &'static Build| {
+    let pushed = |side: &'static Port| {
         let mut buffer = r.pushed.clone();
-        move || build.record_push(u, black_box(&r.times), &mut buffer)
+        move || side.record_push(u, black_box(&r.times), &mut buffer)
     };
     table.row(&name("push"), n, None, pushed(&BEFORE), pushed(&PORT));
-    let built = |build: &'static Build| {
+    let built = |side: &'static Port| {
         (
             || r.pushed.clone(),
             |mut words: Vec<u64>| {
-                build.record_build(u, n, r.last, true, &mut words);
+                side.record_build(u, n, r.last, true, &mut words);
                 words
             },
         )
@@ -142,11 +50,10 @@ pub fn whole(table: &mut Table, r: &Record) {
     let made = PORT.record_build(u, n, r.last, false, &mut plain);
     plain.truncate(made);
     for (row, image) in [("open", &plain), ("open with rank", &r.image)] {
-        let opened = |build: &Build| build.record_open(black_box(image));
+        let opened = |side: &Port| side.record_open(black_box(image));
         table.same(&name(row), n, None, || opened(&BEFORE), || opened(&PORT));
     }
-    let walked =
-        |build: &'static Build, steps| move || build.record_walk(black_box(&r.image), steps);
+    let walked = |side: &'static Port, steps| move || side.record_walk(black_box(&r.image), steps);
     assert_eq!(walked(&BEFORE, n)(), walked(&PORT, n)());
     table.row_after_both(
         &name("walk"),
@@ -156,31 +63,31 @@ pub fn whole(table: &mut Table, r: &Record) {
         (walked(&PORT, n), walked(&PORT, 0)),
     );
     let q = &r.questions;
-    let mut asked = |row, args: &[u64], many: fn(&Build) -> Many| {
+    let mut asked = |row, args: &[u64], many: fn(&Port) -> Many| {
         asked(table, &name(row), None, &r.image, args, many, |value| value);
     };
-    asked("select", &q.ks, |b| b.selects);
-    asked("delta", &q.ks, |b| b.deltas);
-    asked("rank", &q.values, |b| b.ranks);
-    asked("predecessor", &q.values, |b| b.predecessors);
-    asked("successor", &q.values, |b| b.successors);
+    asked("select", &q.ks, |side| side.selects);
+    asked("delta", &q.ks, |side| side.deltas);
+    asked("rank", &q.values, |side| side.ranks);
+    asked("predecessor", &q.values, |side| side.predecessors);
+    asked("successor", &q.values, |side| side.successors);
 }
 
-/// Both builds are asked the same; `seen` is what of an answer is compared. Each opens the image first, which is taken off.
+/// Both ports are asked the same; `seen` is what of an answer is compared. Each opens the image first, which is taken off.
 fn asked(
     table: &mut Table,
     what: &str,
     target: Option<f64>,
     image: &[u64],
     args: &[u64],
-    many: fn(&Build) -> Many,
+    many: fn(&Port) -> Many,
     seen: impl Fn(u64) -> u64,
 ) {
     if !is_asked(what) {
         return;
     }
-    let ask = |build: &Build, args: &[u64], out: &mut [Answer]| {
-        port::record_ask(many(build), black_box(image), args, out)
+    let ask = |side: &Port, args: &[u64], out: &mut [Answer]| {
+        port::record_ask(many(side), black_box(image), args, out)
     };
     let mut theirs = vec![Answer::default(); args.len()];
     let mut ours = theirs.clone();
@@ -282,7 +189,7 @@ impl List {
                 Some(TARGET),
                 &self.image,
                 args,
-                |b| b.binsearches,
+                |side| side.binsearches,
                 time,
             );
         }

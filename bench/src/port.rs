@@ -29,9 +29,7 @@ mod c {
     use super::Answer;
 
     extern "C" {
-        pub fn bench_popcount(words: *const u64, n: usize) -> u64;
         pub fn bench_lsb(words: *const u64, n: usize) -> u64;
-        pub fn bench_msb(words: *const u64, n: usize) -> u64;
         pub fn bench_select_in_word_by(
             words: *const u64,
             n: usize,
@@ -74,17 +72,6 @@ mod c {
             ks: *const usize,
             j: usize,
         ) -> u64;
-        pub fn bench_record_push(
-            universe: u64,
-            num_vals: u64,
-            times: *const u64,
-            n: usize,
-            buffer: *mut u64,
-            m: usize,
-        ) -> u64;
-        pub fn bench_record_walk(image: *const u64, n: usize, steps: usize) -> u64;
-        pub fn ef_build(builder: super::Builder, rank: bool, buffer: *mut u64, n: usize) -> Answer;
-        pub fn ef_open(image: *const u64, n: usize) -> u64;
         pub fn ef_read_from(
             image: *const u64,
             n: usize,
@@ -112,54 +99,6 @@ mod c {
             k: usize,
             out: *mut u64,
             m: usize,
-        ) -> Answer;
-        pub fn ef_selects(
-            i: *const u64,
-            n: usize,
-            a: *const u64,
-            m: usize,
-            o: *mut u64,
-            j: usize,
-        ) -> Answer;
-        pub fn ef_deltas(
-            i: *const u64,
-            n: usize,
-            a: *const u64,
-            m: usize,
-            o: *mut u64,
-            j: usize,
-        ) -> Answer;
-        pub fn ef_ranks(
-            i: *const u64,
-            n: usize,
-            a: *const u64,
-            m: usize,
-            o: *mut u64,
-            j: usize,
-        ) -> Answer;
-        pub fn ef_predecessors(
-            i: *const u64,
-            n: usize,
-            a: *const u64,
-            m: usize,
-            o: *mut u64,
-            j: usize,
-        ) -> Answer;
-        pub fn ef_successors(
-            i: *const u64,
-            n: usize,
-            a: *const u64,
-            m: usize,
-            o: *mut u64,
-            j: usize,
-        ) -> Answer;
-        pub fn ef_binsearches(
-            i: *const u64,
-            n: usize,
-            a: *const u64,
-            m: usize,
-            o: *mut u64,
-            j: usize,
         ) -> Answer;
         pub fn ef_sarray_from_bits(
             words: *const u64,
@@ -228,8 +167,8 @@ type Push = unsafe extern "C" fn(u64, u64, *const u64, usize, *mut u64, usize) -
 type Finish = unsafe extern "C" fn(Builder, bool, *mut u64, usize) -> Answer;
 type Walk = unsafe extern "C" fn(*const u64, usize, usize) -> u64;
 
-/// A build of the port, by those of its functions that stand beside those of an earlier build.
-pub struct Build {
+/// The port of a commit, by those of its functions that stand beside those of an earlier one.
+pub struct Port {
     pub popcount: OfWords,
     pub msb: OfWords,
     pub record_push: Push,
@@ -244,23 +183,42 @@ pub struct Build {
     pub binsearches: Many,
 }
 
-/// That of today.
-pub const PORT: Build = Build {
-    popcount: c::bench_popcount,
-    msb: c::bench_msb,
-    record_push: c::bench_record_push,
-    record_build: c::ef_build,
-    record_open: c::ef_open,
-    record_walk: c::bench_record_walk,
-    selects: c::ef_selects,
-    deltas: c::ef_deltas,
-    ranks: c::ef_ranks,
-    predecessors: c::ef_predecessors,
-    successors: c::ef_successors,
-    binsearches: c::ef_binsearches,
-};
+/// The port whose functions are linked with `$prefix` before their names.
+macro_rules! linked {
+    ($prefix:literal) => {
+        linked!($prefix, selects deltas ranks predecessors successors binsearches)
+    };
+    ($prefix:literal, $($many:ident)*) => {{
+        use $crate::port::{Answer, Builder, Port};
 
-impl Build {
+        extern "C" {
+            #[link_name = concat!($prefix, "bench_popcount")]
+            fn popcount(words: *const u64, n: usize) -> u64;
+            #[link_name = concat!($prefix, "bench_msb")]
+            fn msb(words: *const u64, n: usize) -> u64;
+            #[link_name = concat!($prefix, "bench_record_push")]
+            fn record_push(u: u64, n: u64, times: *const u64, m: usize, out: *mut u64, j: usize) -> u64;
+            #[link_name = concat!($prefix, "ef_build")]
+            fn record_build(builder: Builder, rank: bool, buffer: *mut u64, n: usize) -> Answer;
+            #[link_name = concat!($prefix, "ef_open")]
+            fn record_open(image: *const u64, n: usize) -> u64;
+            #[link_name = concat!($prefix, "bench_record_walk")]
+            fn record_walk(image: *const u64, n: usize, steps: usize) -> u64;
+            $(
+                #[link_name = concat!($prefix, "ef_", stringify!($many))]
+                fn $many(image: *const u64, n: usize, args: *const u64, m: usize, out: *mut u64, j: usize) -> Answer;
+            )*
+        }
+        Port { popcount, msb, record_push, record_build, record_open, record_walk, $($many),* }
+    }};
+}
+#[cfg(feature = "before")]
+pub(crate) use linked;
+
+/// That of today.
+pub const PORT: Port = linked!("");
+
+impl Port {
     pub fn popcount(&self, words: &[u64]) -> u64 {
         unsafe { (self.popcount)(words.as_ptr(), words.len()) }
     }
