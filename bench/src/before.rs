@@ -12,8 +12,8 @@ const BEFORE: Port = linked!("before_");
 
 /// The words of some bits.
 pub fn words(table: &mut Table, b: &Bits) {
-    let rows: [(&str, fn(&Port, &[u64]) -> u64); 2] =
-        [("popcount", Port::popcount), ("msb", Port::msb)];
+    type OfWords = fn(&Port, &[u64]) -> u64;
+    let rows: [(&str, OfWords); 2] = [("popcount", Port::popcount), ("msb", Port::msb)];
     for (row, f) in rows {
         let what = format!("{row}, {}", b.name);
         let of = |side| f(side, black_box(&b.words));
