@@ -21,24 +21,28 @@ pub fn words(table: &mut Table, b: &Bits) {
     }
 }
 
-/// A record pushed, built, opened, walked over and asked.
-pub fn whole(table: &mut Table, r: &Record) {
+/// A record pushed, built and opened. What the port before writes is compared, word for word.
+pub fn made(table: &mut Table, r: &Record) {
     let (n, u) = (r.times.len(), r.universe);
     let name = |row| record::name(row, n);
+    let mut theirs = vec![u64::MAX; r.pushed.len()];
+    assert_eq!(BEFORE.record_push(u, &r.times, &mut theirs), n as u64);
+    assert!(theirs == r.pushed, "push before, {n} times");
     let pushed = |side: &'static Port| {
         let mut buffer = r.pushed.clone();
         move || side.record_push(u, black_box(&r.times), &mut buffer)
     };
     table.row(&name("push"), n, None, pushed(&BEFORE), pushed(&PORT));
-    let built = |side: &'static Port| {
-        (
-            || r.pushed.clone(),
-            |mut words: Vec<u64>| {
-                side.record_build(u, n, r.last, true, &mut words);
-                words
-            },
-        )
+    let image = |side: &Port, rank, mut words: Vec<u64>| {
+        let len = side.record_build(u, n, r.last, rank, &mut words);
+        words.truncate(len);
+        words
     };
+    assert!(
+        image(&BEFORE, true, theirs) == r.image,
+        "image before, {n} times"
+    );
+    let built = |side: &'static Port| (|| r.pushed.clone(), move |words| image(side, true, words));
     table.row_with(
         &name("build with rank"),
         n,
@@ -46,13 +50,17 @@ pub fn whole(table: &mut Table, r: &Record) {
         built(&BEFORE),
         built(&PORT),
     );
-    let mut plain = r.pushed.clone();
-    let made = PORT.record_build(u, n, r.last, false, &mut plain);
-    plain.truncate(made);
+    let plain = image(&PORT, false, r.pushed.clone());
     for (row, image) in [("open", &plain), ("open with rank", &r.image)] {
         let opened = |side: &Port| side.record_open(black_box(image));
         table.same(&name(row), n, None, || opened(&BEFORE), || opened(&PORT));
     }
+}
+
+/// A record walked over and asked.
+pub fn questions(table: &mut Table, r: &Record) {
+    let n = r.times.len();
+    let name = |row| record::name(row, n);
     let walked = |side: &'static Port, steps| move || side.record_walk(black_box(&r.image), steps);
     assert_eq!(walked(&BEFORE, n)(), walked(&PORT, n)());
     table.row_after_both(

@@ -282,7 +282,8 @@ fn earlier_port(records: &[Record], random: &mut Random) {
     let lists = before::lists(random);
     further("before", |table| {
         bits.iter().for_each(|b| before::words(table, b));
-        records.iter().for_each(|r| before::whole(table, r));
+        records.iter().for_each(|r| before::made(table, r));
+        records.iter().for_each(|r| before::questions(table, r));
         lists.iter().for_each(|l| l.rows(table));
     });
 }
