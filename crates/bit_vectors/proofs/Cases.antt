@@ -2,7 +2,7 @@
 use mathlib.Core.Path.{_≡_, ap, _∙_}
 use mathlib.Core.List.{List, _++_}
 use mathlib.Core.Bool.{Bool, true, false, cond}
-use Prim.Native.Nat.{ℕ, _+_, _-_, _*_, _/_, _%_, _^_, _≤_, _<_}
+use Prim.Native.Nat.{ℕ, _+_, _-_, _*_, _/_, _%_, _^_, _≤_, _<_, min}
 use borrow.Author.Tests.{le-ltb, lt-ltb, le-leb, lt-leb}
 use lib.Dec.{leb}
 use lib.ListN.{length, getD, set, take, drop}
@@ -115,13 +115,13 @@ module _ (ws : List ℕ) (len : ℕ) where
   unfolding predecessor1Of
   predecessor1-13 pos e = ifValid-13 _ e
 
-  pub predecessor1-past : (pos : ℕ) → invalid ws len ≡ false → len ≤ pos → predecessor1Of ws len pos ≡ none
-  unfolding predecessor1Of
-  predecessor1-past pos e h = ifValid-ok _ e ∙ ap (λ (t : Bool). cond t (ofFound (last (bitAt ws) (pos + 1))) none) (le-ltb pos len h)
+  pub predecessor1-none : (pos : ℕ) → invalid ws len ≡ false → min (pos + 1) len ≡ 0 → predecessor1Of ws len pos ≡ none
+  unfolding predecessor1Of last
+  predecessor1-none pos e h = ifValid-ok _ e ∙ ap (λ (n : ℕ). ofFound (last (bitAt ws) n)) h
 
-  pub predecessor1-ok : (pos : ℕ) (a : Found) → invalid ws len ≡ false → pos < len → last (bitAt ws) (pos + 1) ≡ a → predecessor1Of ws len pos ≡ ofFound a
+  pub predecessor1-ok : (pos end : ℕ) (a : Found) → invalid ws len ≡ false → min (pos + 1) len ≡ end → last (bitAt ws) end ≡ a → predecessor1Of ws len pos ≡ ofFound a
   unfolding predecessor1Of
-  predecessor1-ok pos a e h l = ifValid-ok _ e ∙ ap (λ (t : Bool). cond t (ofFound (last (bitAt ws) (pos + 1))) none) (lt-ltb pos len h) ∙ ap ofFound l
+  predecessor1-ok pos end a e h l = ifValid-ok _ e ∙ ap ofFound (ap (last (bitAt ws)) h ∙ l)
 
 -- ---- calls that alter words
 

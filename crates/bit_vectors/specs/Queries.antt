@@ -1,7 +1,7 @@
 -- What each call on a bit vector answers and leaves, document 01, "Odd spots" and "Refusals". Assumes nothing.
 use mathlib.Core.List.{List, _++_}
 use mathlib.Core.Bool.{Bool, cond}
-use Prim.Native.Nat.{ℕ, _+_, _-_, _*_, _/_, _%_, _^_}
+use Prim.Native.Nat.{ℕ, _+_, _-_, _*_, _/_, _%_, _^_, min}
 use lib.Dec.{leb, ltb}
 use lib.ListN.{length, getD, set, take, drop}
 use Rattle.errors.specs.Refusal.{numberOf}
@@ -87,8 +87,9 @@ module _ (ws : List ℕ) (len : ℕ) where
   unfoldable pub selectBitOf : Bool → ℕ → Answer
   selectBitOf b k = ifValid (ofFound (select (bitOver b ws) len k))
 
+  -- the last one at or before pos; from the length on the last one of all. Document 02 (v)
   unfoldable pub predecessor1Of : ℕ → Answer
-  predecessor1Of pos = ifValid (cond (ltb pos len) (ofFound (last (bitAt ws) (pos + 1))) none)
+  predecessor1Of pos = ifValid (ofFound (last (bitAt ws) (min (pos + 1) len)))
 
   -- ---- calls that alter words
 

@@ -1,4 +1,4 @@
--- Document 01's "Odd spots" of broadword.rs, bit_vector.rs and unary.rs as rows of one table, and the theorem that covers the table.
+-- Document 01's "Odd spots" of broadword.rs, bit_vector.rs and unary.rs as rows of one table, those of predecessor1 as document 02 (v) has them, and the theorem that covers the table.
 use mathlib.Core.Path.{_≡_, refl}
 use mathlib.Core.List.{List, [], _∷_, map}
 use mathlib.Core.Bool.{true, false}
@@ -47,11 +47,16 @@ rows =
     -- rank1 at the length is the count of ones, past it none
     ∷ row (rank1Of eleven 4 4) (value 3)
     ∷ row (rank1Of eleven 4 5) none
-    -- select0 never reports padding; predecessor1 at or past the length is none
+    -- select0 never reports padding
     ∷ row (selectBitOf eleven 4 false 0) (value 2)
     ∷ row (selectBitOf eleven 4 false 1) none
+    -- predecessor1 at or past the length is the last one, and none where there is none; set padding is refused, and a later word is no part of the vector
     ∷ row (predecessor1Of eleven 4 2) (value 1)
-    ∷ row (predecessor1Of eleven 4 4) none
+    ∷ row (predecessor1Of eleven 4 4) (value 3)
+    ∷ row (predecessor1Of eleven 4 5) (value 3)
+    ∷ row (predecessor1Of (0 ∷ []) 4 4) none
+    ∷ row (predecessor1Of (16 ∷ []) 4 4) (refused 13)
+    ∷ row (predecessor1Of (1 ∷ 1 ∷ []) 64 64) (value 0)
     -- after `next` gave 0, `skip0(0)` gives 2
     ∷ row (nextOf eleven 4 fresh .answer) (value 0)
     ∷ row (skip0Of eleven 4 (after (nextOf eleven 4 fresh)) 0 .answer) (value 2)

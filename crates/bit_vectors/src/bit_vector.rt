@@ -138,17 +138,18 @@ pub fn select0(words: &[u64], len: usize, k: usize) -> Place
     select_over(words, len, false, k)
 }
 
-// The last one at or before pos.
+// The last one at or before pos; from the length on the last one of all.
 pub fn predecessor1(words: &[u64], len: usize, pos: usize) -> Place
     ensures { λ r. ⌜ ofPlace r ≡ predecessor1Of (now (words .entry)) len pos ⌝ }
 {
     if is_invalid(words, len) {
         return Place::Refused(Refusal::InvalidBits);
     }
-    if len <= pos {
+    let end = if pos < len { pos + 1 } else { len };
+    if end == 0 {
         return Place::Nothing;
     }
-    match last_upto(words, pos) {
+    match last_upto(words, end - 1) {
         Found::At(place) => Place::At(place),
         Found::Nothing => Place::Nothing,
     }

@@ -164,13 +164,13 @@ module _ (ws : List ℕ) (len : ℕ) (c : Bool) (ok : invalid ws len ≡ false) 
           let g : getD S k 0 < suc p = position.below f (getD S k 0) (suc p) (omega (arith, s .before)) in
           below-law.greatest-some len p S (ones.rises ws len) k (far ∙ e) ∙ sym (ap ofFound (ap (last f) next ∙ last-selected f bits (suc p) k (getD S k 0) len e s g))
 
-  predecessor-is : (p : ℕ) → sparseAsk len c S (Predecessor1 p) ≡ cond (not c) (refused 8) (predecessor1Of ws len p)
+  predecessor-is : (p : ℕ) → sparseAsk len c S (Predecessor1 p) ≡ cond (not c) (refused 8) (cond (leb len p) none (predecessor1Of ws len p))
   unfolding sparseAsk predecessor1Of bitOver
-  predecessor-is p = ap (cond (not c) (refused 8)) (by (decLt p len) ∙ sym (valid (cond (ltb p len) (ofFound (last (bitAt ws) (p + 1))) none)))
+  predecessor-is p = ap (cond (not c) (refused 8)) (by (decLt p len))
     where
-      by : Dec (p < len) → cond (leb len p) none (greatest p S) ≡ cond (ltb p len) (ofFound (last (bitAt ws) (p + 1))) none
-      by (yes h) = no-of (leb len p) none (greatest p S) (lt-leb len p h) ∙ greatest-is p h ∙ sym (yes-of (ltb p len) (ofFound (last (bitAt ws) (p + 1))) none (lt-ltb p len h))
-      by (no h) = let g : len ≤ p = omega (arith, lt-of-not-le h) in simp (le-leb len p g, le-ltb p len g)
+      by : Dec (p < len) → cond (leb len p) none (greatest p S) ≡ cond (leb len p) none (predecessor1Of ws len p)
+      by (yes h) = ap (cond (leb len p) none) (greatest-is p h ∙ ap (λ (n : ℕ). ofFound (last f n)) (let e : p + 1 ≡ min (p + 1) len = omega arith in e) ∙ sym (valid (ofFound (last f (min (p + 1) len)))))
+      by (no h) = let g : len ≤ p = omega (arith, lt-of-not-le h) in simp (le-leb len p g)
 
   smallest-is : (p : ℕ) → p < len → smallest p S ≡ nth S (below p S)
   unfolding nth

@@ -25,12 +25,13 @@ unfoldable pub sparseFromBits : List ℕ → ℕ → Bool → List ℕ → Outco
 sparseFromBits ws len c w = passing (sparseTest ws len c (length w)) w (bitsWritten ws len c w)
 
 module _ (ws : List ℕ) (len : ℕ) (c : Bool) where
-  -- the same questions of the plain bits, by the definitions of `bit_vectors`. It has no successor: that is the one that as many stand before as before p
+  -- the same questions of the plain bits, by the definitions of `bit_vectors`. It has no successor: that is the one that as many stand before as before p.
+  -- From the length on there is no neighbour, though the plain bits have a predecessor there (document 02 (v))
   unfoldable pub plain : SparseQuestion → Answer
   plain (Access p) = accessOf ws len p
   plain (Rank1 p) = cond (not c) (refused 8) (rank1Of ws len p)
   plain (Select1 k) = selectBitOf ws len true k
-  plain (Predecessor1 p) = cond (not c) (refused 8) (predecessor1Of ws len p)
+  plain (Predecessor1 p) = cond (not c) (refused 8) (cond (leb len p) none (predecessor1Of ws len p))
   plain (Successor1 p) = cond (not c) (refused 8) (cond (leb len p) none (selectBitOf ws len true (count (bitAt ws) p)))
 
 -- every question of the first k words that an accepted call leaves is that question of the plain bits

@@ -1,9 +1,13 @@
 -- `bit_vectors::bit_vector::predecessor1` meets its contract.
 -- Assumes nothing.
 use borrow.Author.Needs.{needs}
-use mathlib.Core.Path.{sym, _∙_}
+use mathlib.Core.Bool.{false}
+use mathlib.Core.Logic.{⊎-elim}
+use mathlib.Core.Path.{_≡_, sym, _∙_}
+use Prim.Native.Nat.{_+_, min}
 use native.Mathlib.Omega.{arith}
 use Rattle.broadword.specs.declared.Found.the-variants.{At, Nothing}
+use Rattle.bit_words.specs.Vector.{invalid}
 use Rattle.bit_words.proofs.Valid.{valid}
 use Rattle.bit_vectors.proofs.Cases as cases
 use Rattle.bit_vectors.proofs.bit_vector.predecessor1.Statement.{statement}
@@ -15,15 +19,29 @@ is-invalid-requires c κs = search needs
 returns : tie.Need-returns
 returns c = sym (cases.predecessor1-13 _ _ _ (sym (c .before .is-invalid .ensures) ∙ c .if1 .taken))
 
+add-end : tie.Need-add-end
+add-end c = search needs
+
+-- the words are a vector of this length
+is-valid : (c : tie.Joined2) → let s = c .before .before .before .before in invalid (s .args .words .now) (s .args .len) ≡ false
+is-valid c = sym (c .before .before .is-invalid .ensures) ∙ c .before .if1 .left
+
+-- `end` is the place after pos, or the length
+end-is : (c : tie.Joined2) → let s = c .before .before .before .before in c .if2 .end ≡ min (s .args .pos + 1) (s .args .len)
+end-is c = ⊎-elim (λ w. omega arith) (λ w. omega arith) (c .if2 .came)
+
 returns-2 : tie.Need-returns-2
-returns-2 c = sym (cases.predecessor1-past _ _ _ (sym (c .before .before .is-invalid .ensures) ∙ c .before .if1 .left) (c .if2 .taken))
+returns-2 c = sym (cases.predecessor1-none _ _ _ (is-valid (c .before)) (let e = end-is (c .before) in omega (arith, c .if3 .taken)))
+
+sub-last-upto : tie.Need-sub-last-upto
+sub-last-upto c = search needs
 
 last-upto-requires : tie.Need-last-upto-requires
 last-upto-requires c κs =
-    let s = c .before .before .before .before in
-    let v = valid (s .args .words .now) (s .args .len) (sym (c .before .before .is-invalid .ensures) ∙ c .before .if1 .left) in
-    let r = v .room in
-    omega (arith, c .if2 .left)
+    let j = c .before .before in
+    let s = j .before .before .before .before in
+    let r = valid (s .args .words .now) (s .args .len) (is-valid j) .room in
+    omega (arith, end-is j, c .before .if3 .left)
 
 enum-known-place : tie.Need-enum-known-place
 enum-known-place c = search needs
@@ -33,13 +51,13 @@ enum-told c = search needs
 
 returns-3 : tie.Need-returns-3
 returns-3 c =
-    let b = c .before .before .before .before in
-    sym (cases.predecessor1-ok _ _ _ (At (c .before .place .given .0 .0)) (sym (b .before .before .is-invalid .ensures) ∙ b .before .if1 .left) (b .if2 .left) (sym (c .before .before .before .last-upto .ensures) ∙ c .before .place .given .1))
+    let j = c .before .before .before .before .before .before in
+    sym (cases.predecessor1-ok _ _ _ _ (At (c .before .place .given .0 .0)) (is-valid j) (let e = end-is j in omega (arith, c .before .before .before .before .before .if3 .left)) (sym (c .before .before .before .last-upto .ensures) ∙ c .before .place .given .1))
 
 returns-4 : tie.Need-returns-4
 returns-4 c =
-    let b = c .before .before .before in
-    sym (cases.predecessor1-ok _ _ _ Nothing (sym (b .before .before .is-invalid .ensures) ∙ b .before .if1 .left) (b .if2 .left) (sym (c .before .before .last-upto .ensures) ∙ c .enum-told .given .1))
+    let j = c .before .before .before .before .before in
+    sym (cases.predecessor1-ok _ _ _ _ Nothing (is-valid j) (let e = end-is j in omega (arith, c .before .before .before .before .if3 .left)) (sym (c .before .before .last-upto .ensures) ∙ c .enum-told .given .1))
 
 pub predecessor1-spec : {M : Type 1} → statement M
 predecessor1-spec =
@@ -47,7 +65,9 @@ predecessor1-spec =
     (tie.spec
     is-invalid-requires
     returns
+    add-end
     returns-2
+    sub-last-upto
     last-upto-requires
     enum-known-place
     enum-told
