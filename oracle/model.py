@@ -601,9 +601,8 @@ class Console:
         return kth(places(self.vector(), 0), k)
 
     def predecessor1(self, p):
-        bits = self.vector()
-        ones = places(bits[: p + 1], 1)
-        return ones[-1] if p < self.length and ones else None
+        ones = places(self.vector()[: p + 1], 1)
+        return ones[-1] if ones else None
 
     def num_ones(self):
         return sum(self.vector())

@@ -54,8 +54,18 @@ num_ones -> 3
 # select0 never reports padding
 select0 0 -> 2
 select0 1 -> none
+# predecessor1 at and past the length is the last one; padding is refused, and a later word is not looked at
+predecessor1 2 -> 1
 predecessor1 3 -> 3
+predecessor1 4 -> 3
+predecessor1 18446744073709551615 -> 3
+bits 4 0 -> ok
 predecessor1 4 -> none
+bits 4 16 -> ok
+predecessor1 4 -> refused 13
+bits 64 1 1 -> ok
+predecessor1 64 -> 0
+bits 4 11 -> ok
 # a walk: next takes the bit, the skips stop on it
 unary 0 next skip0 0 -> 0 2
 unary 0 skip1 5 next -> none none
@@ -106,6 +116,7 @@ dump -> 0 :
 
 CLAIMS = """
 bits 4 11 -> ok
+predecessor1 4 -> none
 unary 0 next skip0 0 -> 0 0
 unary 0 skip1 5 next -> none 64
 get_bits 18446744073709551615 1 -> panic
@@ -223,6 +234,13 @@ class Case:
         at = next(i for i in range(len(steps)) if model[i] != rust[i])
         return steps[at][0], [s[0] for s in steps[:at]], model[:at]
 
+    def last_one(self):
+        """For a predecessor from the length on: the last one, by the bits. The Rust says none there."""
+        if self.name != "predecessor1" or self.bad or self.args[0] < self.length:
+            return None
+        number = sum(w << 64 * i for i, w in enumerate(self.words)) % 2**self.length
+        return str(number.bit_length() - 1) if number else "none"
+
 
 def walk_after_none(case, step_is_position):
     found = case.parts_at()
@@ -295,6 +313,11 @@ DIFFERENCES = [
         and (c.model, c.rust) == ("none", "panic"),
     ),
     (
+        "from the length on the Rust has no predecessor",
+        ["bits 1 1", "predecessor1 1"],
+        lambda c: c.last_one() == c.model and c.rust == "none",
+    ),
+    (
         "skip0 after next counts the taken bit in the Rust",
         ["bits 1 1", "unary 0 next skip0 0"],
         walk_skip0_after_next,
@@ -341,6 +364,8 @@ def compare(oracle, lines):
     seen, agreed = [0] * len(DIFFERENCES), 0
     for (line, case), at in zip(cases, asked):
         case.rust = told[at]
+        if case.last_one() not in (None, case.model):
+            sys.exit(f"{line[:200]!r}: {case.model} in the model, and {case.last_one()} by the bits of {case.length} : {case.words[:8]}")
         if case.model == case.rust:
             agreed += 1
             continue
@@ -565,6 +590,25 @@ BAD_CALLS = (
     "index_select 1 0",
     "index_select 0 0",
 )
+
+
+def add_last_ones(add):
+    add.note("predecessor1 around the length and past it: the last one, in whichever word; no padding, and no later word")
+    for length in (0, 1, 2, 63, 64, 65, 127, 128, 129, 200, 256):
+        used = used_words(length)
+        near = sorted(p for p in {0, length - 2, length - 1, length, length + 1, 64 * used - 1, 64 * used, 64 * used + 64, MAX - 1, MAX} if p >= 0)
+        kinds = {(), (0,), (length // 2,), (length - 64,), (length - 2, length - 1)}
+        for ones in sorted({tuple(p for p in kind if 0 <= p < length) for kind in kinds}):
+            for later in ((), (MAX, 1)):
+                add(" ".join(map(str, (bits_line(length, ones), *later))))
+                for p in near:
+                    add("predecessor1", p)
+    add("dump")
+    add.note("13 wherever the position is: padding set, or too few words")
+    for length, words in ((1, (2,)), (4, (16,)), (63, (2**63,)), (65, (1, 2)), (65, (1,)), (64, ())):
+        add("bits", length, *words)
+        for p in (0, length, length + 1, 63, 64, MAX):
+            add("predecessor1", p)
 
 
 def add_bad_vectors(add):
@@ -993,6 +1037,7 @@ def make(seed, count):
             add(line)
     add_words(add)
     add_vectors(add)
+    add_last_ones(add)
     add_bad_vectors(add)
     add_changes(add)
     add_walks(add)
