@@ -141,6 +141,20 @@ fn in_bits(table: &mut Table, b: &Bits, queries: usize, random: &mut Random) {
     table.same(&name("select1"), queries, None, select, || {
         port::select1(black_box(w), len, &ks)
     });
+    let below: Vec<usize> = places.iter().map(|&p| p.min(len - 1)).collect();
+    let before = || rust::predecessor1(black_box(&b.bv), &below);
+    table.same(&name("predecessor1"), queries, None, before, || {
+        port::predecessor1(black_box(w), len, &below)
+    });
+    let past: Vec<usize> = places.iter().map(|&p| len + p).collect();
+    let last = || rust::predecessor1_or_last(black_box(&b.bv), &past);
+    table.same(
+        &name("predecessor1 from the length on"),
+        queries,
+        None,
+        last,
+        || port::predecessor1(black_box(w), len, &past),
+    );
 }
 
 fn walk(table: &mut Table, b: &Bits) {

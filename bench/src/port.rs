@@ -52,6 +52,13 @@ mod c {
             ks: *const usize,
             m: usize,
         ) -> u64;
+        pub fn bench_predecessor1(
+            words: *const u64,
+            n: usize,
+            len: usize,
+            places: *const usize,
+            m: usize,
+        ) -> u64;
         pub fn bench_walk(words: *const u64, n: usize, len: usize) -> u64;
         pub fn bench_build(
             words: *const u64,
@@ -290,6 +297,18 @@ pub fn rank1(words: &[u64], len: usize, places: &[usize]) -> u64 {
 
 pub fn select1(words: &[u64], len: usize, ks: &[usize]) -> u64 {
     unsafe { c::bench_select1(words.as_ptr(), words.len(), len, ks.as_ptr(), ks.len()) }
+}
+
+pub fn predecessor1(words: &[u64], len: usize, places: &[usize]) -> u64 {
+    unsafe {
+        c::bench_predecessor1(
+            words.as_ptr(),
+            words.len(),
+            len,
+            places.as_ptr(),
+            places.len(),
+        )
+    }
 }
 
 pub fn walk(words: &[u64], len: usize) -> u64 {

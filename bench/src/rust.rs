@@ -46,6 +46,25 @@ pub fn select1(bv: &BitVector, ks: &[usize]) -> u64 {
 }
 
 #[inline(never)]
+pub fn predecessor1(bv: &BitVector, places: &[usize]) -> u64 {
+    total(
+        places
+            .iter()
+            .map(|&p| bv.predecessor1(p).unwrap_or(bv.len())),
+    )
+}
+
+/// The Rust has none from the length on: what its user writes for the last one.
+#[inline(never)]
+pub fn predecessor1_or_last(bv: &BitVector, places: &[usize]) -> u64 {
+    total(
+        places
+            .iter()
+            .map(|&p| bv.predecessor1(p.min(bv.len() - 1)).unwrap_or(bv.len())),
+    )
+}
+
+#[inline(never)]
 pub fn walk(bv: &BitVector) -> u64 {
     total(bv.unary_iter(0))
 }

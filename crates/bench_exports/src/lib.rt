@@ -13,6 +13,7 @@ mod record;
 
 use bit_vectors::Count;
 use bit_vectors::Place;
+use bit_vectors::bit_vector::predecessor1;
 use bit_vectors::bit_vector::rank1;
 use bit_vectors::bit_vector::select1;
 use bit_vectors::unary::Started;
@@ -149,6 +150,18 @@ pub extern "C" fn bench_select1(words: &[u64], len: usize, ks: &[usize]) -> u64 
     let mut i: usize = 0;
     while i < ks.len() {
         sum = wrapping_add_u64(sum, bit_place_or(select1(words, len, ks[i]), len));
+        i += 1;
+    }
+    sum
+}
+
+// The last one at or before each place.
+#[no_mangle]
+pub extern "C" fn bench_predecessor1(words: &[u64], len: usize, places: &[usize]) -> u64 {
+    let mut sum: u64 = 0;
+    let mut i: usize = 0;
+    while i < places.len() {
+        sum = wrapping_add_u64(sum, bit_place_or(predecessor1(words, len, places[i]), len));
         i += 1;
     }
     sum

@@ -1,6 +1,6 @@
 // Bit vectors in a plain format: lent words and a length, which each call checks before it answers.
 //
-// `access`, `get_bits`, `get_word64`, `set_bit` and the pushes take constant time; the ranks and selects take time linear in the words.
+// `access`, `get_bits`, `get_word64`, `set_bit` and the pushes take constant time; the ranks, the selects and `predecessor1` take time linear in the words.
 ghost use mathlib.Core.Path.{_≡_};
 ghost use mathlib.Core.Bool.{true, false};
 ghost use Rattle.errors.specs.Answer.{leaves};
