@@ -63,6 +63,10 @@ impl Bits {
                 words[i / 64] |= 1 << (i % 64);
             }
         }
+        Self::of(name, words, len)
+    }
+
+    fn of(name: &'static str, words: Vec<u64>, len: usize) -> Self {
         let ones = words.iter().map(|w| w.count_ones() as usize).sum();
         let bv = BitVector {
             words: words.clone().into(),
@@ -146,14 +150,21 @@ fn in_bits(table: &mut Table, b: &Bits, queries: usize, random: &mut Random) {
     table.same(&name("predecessor1"), queries, None, before, || {
         port::predecessor1(black_box(w), len, &below)
     });
-    let past: Vec<usize> = places.iter().map(|&p| len + p).collect();
-    let last = || rust::predecessor1_or_last(black_box(&b.bv), &past);
+    last_one(table, b, &places);
+}
+
+/// The places are counted from the length on.
+fn last_one(table: &mut Table, b: &Bits, places: &[usize]) {
+    let past: Vec<usize> = places.iter().map(|&p| b.len + p).collect();
     table.same(
-        &name("predecessor1 from the length on"),
-        queries,
+        &format!(
+            "predecessor1 from the length on, {} bits, {}",
+            b.len, b.name
+        ),
+        past.len(),
         None,
-        last,
-        || port::predecessor1(black_box(w), len, &past),
+        || rust::predecessor1_or_last(black_box(&b.bv), &past),
+        || port::predecessor1(black_box(&b.words), b.len, &past),
     );
 }
 
@@ -215,6 +226,10 @@ fn round(table: &mut Table) {
             random,
         );
     }
+    let mut words = vec![0; (1 << 14) + 1];
+    words[0] = 1;
+    let far = Bits::of("one at 0", words, (1 << 20) + 10);
+    last_one(table, &far, &[0; 100]);
     for (name, len, rarity) in [
         ("half ones", (1 << 22) + 10, 2),
         ("ones 1 in 16", (1 << 22) + 10, 16),
