@@ -145,11 +145,11 @@ pub fn predecessor1(words: &[u64], len: usize, pos: usize) -> Place
     if is_invalid(words, len) {
         return Place::Refused(Refusal::InvalidBits);
     }
-    let end = if pos < len { pos + 1 } else { len };
-    if end == 0 {
+    if len == 0 { // there is no last place
         return Place::Nothing;
     }
-    match last_upto(words, end - 1) {
+    let from = if pos < len { pos } else { len - 1 };
+    match last_upto(words, from) {
         Found::At(place) => Place::At(place),
         Found::Nothing => Place::Nothing,
     }

@@ -19,29 +19,26 @@ is-invalid-requires c κs = search needs
 returns : tie.Need-returns
 returns c = sym (cases.predecessor1-13 _ _ _ (sym (c .before .is-invalid .ensures) ∙ c .if1 .taken))
 
-add-end : tie.Need-add-end
-add-end c = search needs
+returns-2 : tie.Need-returns-2
+returns-2 c = sym (cases.predecessor1-none _ _ _ (sym (c .before .before .is-invalid .ensures) ∙ c .before .if1 .left) (let d = c .if2 .taken in omega arith))
+
+sub-from : tie.Need-sub-from
+sub-from c = search needs
 
 -- the words are a vector of this length
-is-valid : (c : tie.Joined2) → let s = c .before .before .before .before in invalid (s .args .words .now) (s .args .len) ≡ false
-is-valid c = sym (c .before .before .is-invalid .ensures) ∙ c .before .if1 .left
+is-valid : (c : tie.Joined3) → let s = c .before .before .before .before .before in invalid (s .args .words .now) (s .args .len) ≡ false
+is-valid c = sym (c .before .before .before .is-invalid .ensures) ∙ c .before .before .if1 .left
 
--- `end` is the place after pos, or the length
-end-is : (c : tie.Joined2) → let s = c .before .before .before .before in c .if2 .end ≡ min (s .args .pos + 1) (s .args .len)
-end-is c = ⊎-elim (λ w. omega arith) (λ w. omega arith) (c .if2 .came)
-
-returns-2 : tie.Need-returns-2
-returns-2 c = sym (cases.predecessor1-none _ _ _ (is-valid (c .before)) (let e = end-is (c .before) in omega (arith, c .if3 .taken)))
-
-sub-last-upto : tie.Need-sub-last-upto
-sub-last-upto c = search needs
+-- `from` is pos, or the last place
+from-is : (c : tie.Joined3) → let s = c .before .before .before .before .before in min (s .args .pos + 1) (s .args .len) ≡ c .if3 .from + 1
+from-is c = let d = c .before .if2 .left in ⊎-elim (λ w. omega arith) (λ w. omega arith) (c .if3 .came)
 
 last-upto-requires : tie.Need-last-upto-requires
 last-upto-requires c κs =
-    let j = c .before .before in
-    let s = j .before .before .before .before in
-    let r = valid (s .args .words .now) (s .args .len) (is-valid j) .room in
-    omega (arith, end-is j, c .before .if3 .left)
+    let s = c .before .before .before .before .before in
+    let r = valid (s .args .words .now) (s .args .len) (is-valid c) .room in
+    let e = from-is c in
+    omega (arith, e)
 
 enum-known-place : tie.Need-enum-known-place
 enum-known-place c = search needs
@@ -51,13 +48,13 @@ enum-told c = search needs
 
 returns-3 : tie.Need-returns-3
 returns-3 c =
-    let j = c .before .before .before .before .before .before in
-    sym (cases.predecessor1-ok _ _ _ _ (At (c .before .place .given .0 .0)) (is-valid j) (let e = end-is j in omega (arith, c .before .before .before .before .before .if3 .left)) (sym (c .before .before .before .last-upto .ensures) ∙ c .before .place .given .1))
+    let j = c .before .before .before .before in
+    sym (cases.predecessor1-ok _ _ _ _ (At (c .before .place .given .0 .0)) (is-valid j) (from-is j) (sym (c .before .before .before .last-upto .ensures) ∙ c .before .place .given .1))
 
 returns-4 : tie.Need-returns-4
 returns-4 c =
-    let j = c .before .before .before .before .before in
-    sym (cases.predecessor1-ok _ _ _ _ Nothing (is-valid j) (let e = end-is j in omega (arith, c .before .before .before .before .if3 .left)) (sym (c .before .before .last-upto .ensures) ∙ c .enum-told .given .1))
+    let j = c .before .before .before in
+    sym (cases.predecessor1-ok _ _ _ _ Nothing (is-valid j) (from-is j) (sym (c .before .before .last-upto .ensures) ∙ c .enum-told .given .1))
 
 pub predecessor1-spec : {M : Type 1} → statement M
 predecessor1-spec =
@@ -65,9 +62,8 @@ predecessor1-spec =
     (tie.spec
     is-invalid-requires
     returns
-    add-end
     returns-2
-    sub-last-upto
+    sub-from
     last-upto-requires
     enum-known-place
     enum-told
