@@ -146,8 +146,8 @@ fn in_bits(table: &mut Table, b: &Bits, queries: usize, random: &mut Random) {
         port::select1(black_box(w), len, &ks)
     });
     let below: Vec<usize> = places.iter().map(|&p| p.min(len - 1)).collect();
-    let before = || rust::predecessor1(black_box(&b.bv), &below);
-    table.same(&name("predecessor1"), queries, None, before, || {
+    let predecessor = || rust::predecessor1(black_box(&b.bv), &below);
+    table.same(&name("predecessor1"), queries, None, predecessor, || {
         port::predecessor1(black_box(w), len, &below)
     });
     last_one(table, b, &places);

@@ -115,10 +115,6 @@ module _ (ws : List ℕ) (len : ℕ) where
   unfolding predecessor1Of
   predecessor1-13 pos e = ifValid-13 _ e
 
-  pub predecessor1-none : (pos : ℕ) → invalid ws len ≡ false → min (pos + 1) len ≡ 0 → predecessor1Of ws len pos ≡ none
-  unfolding predecessor1Of last
-  predecessor1-none pos e h = ifValid-ok _ e ∙ ap (λ (n : ℕ). ofFound (last (bitAt ws) n)) h
-
   pub predecessor1-ok : (pos end : ℕ) (a : Found) → invalid ws len ≡ false → min (pos + 1) len ≡ end → last (bitAt ws) end ≡ a → predecessor1Of ws len pos ≡ ofFound a
   unfolding predecessor1Of
   predecessor1-ok pos end a e h l = ifValid-ok _ e ∙ ap ofFound (ap (last (bitAt ws)) h ∙ l)

@@ -164,13 +164,19 @@ module _ (ws : List ℕ) (len : ℕ) (c : Bool) (ok : invalid ws len ≡ false) 
           let g : getD S k 0 < suc p = position.below f (getD S k 0) (suc p) (omega (arith, s .before)) in
           below-law.greatest-some len p S (ones.rises ws len) k (far ∙ e) ∙ sym (ap ofFound (ap (last f) next ∙ last-selected f bits (suc p) k (getD S k 0) len e s g))
 
+  -- answers that agree below the length, where from it on there is none
+  inside : (p : ℕ) (a b : Answer) → (p < len → a ≡ b) → cond (leb len p) none a ≡ cond (leb len p) none b
+  inside p a b e = by (decLt p len)
+    where
+      by : Dec (p < len) → cond (leb len p) none a ≡ cond (leb len p) none b
+      by (yes h) = ap (cond (leb len p) none) (e h)
+      by (no h) = let g : len ≤ p = omega (arith, lt-of-not-le h) in simp (le-leb len p g)
+
   predecessor-is : (p : ℕ) → sparseAsk len c S (Predecessor1 p) ≡ cond (not c) (refused 8) (cond (leb len p) none (predecessor1Of ws len p))
   unfolding sparseAsk predecessor1Of bitOver
-  predecessor-is p = ap (cond (not c) (refused 8)) (by (decLt p len))
-    where
-      by : Dec (p < len) → cond (leb len p) none (greatest p S) ≡ cond (leb len p) none (predecessor1Of ws len p)
-      by (yes h) = ap (cond (leb len p) none) (greatest-is p h ∙ ap (λ (n : ℕ). ofFound (last f n)) (let e : p + 1 ≡ min (p + 1) len = omega arith in e) ∙ sym (valid (ofFound (last f (min (p + 1) len)))))
-      by (no h) = let g : len ≤ p = omega (arith, lt-of-not-le h) in simp (le-leb len p g)
+  predecessor-is p =
+      ap (cond (not c) (refused 8)) (inside p _ _ (λ h.
+      greatest-is p h ∙ ap (λ (n : ℕ). ofFound (last f n)) (let e : p + 1 ≡ min (p + 1) len = omega arith in e) ∙ sym (valid (ofFound (last f (min (p + 1) len))))))
 
   smallest-is : (p : ℕ) → p < len → smallest p S ≡ nth S (below p S)
   unfolding nth
@@ -182,11 +188,9 @@ module _ (ws : List ℕ) (len : ℕ) (c : Bool) (ok : invalid ws len ≡ false) 
 
   successor-is : (p : ℕ) → sparseAsk len c S (Successor1 p) ≡ cond (not c) (refused 8) (cond (leb len p) none (selectBitOf ws len true (count (bitAt ws) p)))
   unfolding sparseAsk
-  successor-is p = ap (cond (not c) (refused 8)) (by (decLt p len))
-    where
-      by : Dec (p < len) → cond (leb len p) none (smallest p S) ≡ cond (leb len p) none (selectBitOf ws len true (count (bitAt ws) p))
-      by (yes h) = ap (cond (leb len p) none) (smallest-is p h ∙ select-is (below p S) ∙ ap (selectBitOf ws len true) (below-is p (omega arith) ∙ same-count p))
-      by (no h) = let g : len ≤ p = omega (arith, lt-of-not-le h) in simp (le-leb len p g)
+  successor-is p =
+      ap (cond (not c) (refused 8)) (inside p _ _ (λ h.
+      smallest-is p h ∙ select-is (below p S) ∙ ap (selectBitOf ws len true) (below-is p (omega arith) ∙ same-count p)))
 
   pub plain-is : (q : SparseQuestion) → sparseAsk len c S q ≡ plain ws len c q
   unfolding sparseAsk plain
