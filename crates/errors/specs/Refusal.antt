@@ -1,7 +1,7 @@
--- The refusals' numbers, document 01, "Refusals with an example".
+-- The refusals' numbers, document 01, "Refusals with an example"; 17 is document 02 (vi).
 use Prim.Native.Nat.{ℕ}
 use Rattle.errors.specs.declared.Refusal.{Refusal}
-use Rattle.errors.specs.declared.Refusal.the-variants.{NoValues, TooMany, ShortBuffer, Decreasing, OutOfUniverse, Full, Invalid, NoRankIndex, RangeOutOfBounds, NoBits, NoOnes, SumTooLarge, InvalidBits, WideBits, NoRoom, OutOfBounds}
+use Rattle.errors.specs.declared.Refusal.the-variants.{NoValues, TooMany, ShortBuffer, Decreasing, OutOfUniverse, Full, Invalid, NoRankIndex, RangeOutOfBounds, NoBits, NoOnes, SumTooLarge, InvalidBits, WideBits, NoRoom, OutOfBounds, InvalidWindows}
 
 abbrev pub numberOf : Refusal → ℕ
 numberOf NoValues = 1
@@ -20,3 +20,4 @@ numberOf InvalidBits = 13
 numberOf WideBits = 14
 numberOf NoRoom = 15
 numberOf OutOfBounds = 16
+numberOf InvalidWindows = 17

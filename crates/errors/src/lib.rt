@@ -35,9 +35,11 @@ pub enum Refusal {
     NoRoom,
     // A place lies past the bits.
     OutOfBounds,
+    // The words are not windows of a week, or more than 32 of them.
+    InvalidWindows,
 }
 
-// The refusal's number in document 01.
+// The refusal's number in documents 01 and 02.
 pub fn number(r: Refusal) -> u64
     ensures { λ n. ⌜ n ≡ numberOf r ⌝ }
 {
@@ -58,5 +60,6 @@ pub fn number(r: Refusal) -> u64
         Refusal::WideBits => 14,
         Refusal::NoRoom => 15,
         Refusal::OutOfBounds => 16,
+        Refusal::InvalidWindows => 17,
     }
 }
