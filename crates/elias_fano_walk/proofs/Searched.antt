@@ -1,4 +1,4 @@
--- Search: the scan from the low end, and the answers. T is the list of times. Assumes nothing.
+-- Search: the scan from the low end, the first value that is not below another, and the answers. T is the list of times. Assumes nothing.
 use mathlib.Core.Path.{_≡_, refl, sym, ap, ap₂, _∙_, subst}
 use mathlib.Core.List.{List, _∷_}
 use mathlib.Core.Bool.{true}
@@ -19,7 +19,7 @@ use Rattle.elias_fano.proofs.Images as images
 use Rattle.elias_fano.proofs.Selecting as selecting
 use Rattle.elias_fano_walk.specs.declared.search.Section.{Section}
 use Rattle.elias_fano_walk.specs.declared.walk.Walk.{Walk}
-use Rattle.elias_fano_walk.specs.Searching.{Range, ScanSection}
+use Rattle.elias_fano_walk.specs.Searching.{Range, ScanSection, AllBelow, FirstFrom}
 use Rattle.elias_fano_walk.specs.Walking.{WalkOver}
 use Rattle.elias_fano_walk.proofs.Halved.{not-falling, in-list}
 
@@ -112,6 +112,30 @@ module _ (i : List ℕ) (ok : accepted i ≡ true) (p : Parts) (ep : p ≡ parts
         number = let m = s .number in omega arith;
         same = s .same ∙ first-on v (times i) b up j l (λ q. n (at ∙ q));
       }
+
+-- ---- the first that is not below v
+
+-- the values before the walk are below v
+pub record Skipping (i : List ℕ) (p : Parts) (v : ℕ) (w : Walk) : Type 0 where
+  pub walking : WalkOver i p w
+  pub upto : w .number ≤ p .«num_pushed»
+  pub less : AllBelow (times i) v (w .number)
+
+module _ (i : List ℕ) (ok : accepted i ≡ true) (p : Parts) (ep : p ≡ partsOf i) (v : ℕ) where
+  -- there is no value after them
+  pub skip-ends : (k : ℕ) → p .«num_pushed» ≤ k → k ≤ p .«num_pushed» → AllBelow (times i) v k → FirstFrom (times i) v k
+  skip-ends k h l a = let e = selecting.pushed-is i ok p ep in record { upto = omega arith; less = a; first = λ m. absurd (omega arith) }
+
+  module _ (w : Walk) (s : Skipping i p v w) (x : ℕ) (e : x ≡ getD (times i) (w .number) 0) where
+    pub skip-stops : v ≤ x → FirstFrom (times i) v (w .number)
+    skip-stops h = record { upto = subst (λ (y : ℕ). w .number ≤ y) (selecting.pushed-is i ok p ep) (s .upto); less = s .less; first = λ _. subst (λ (y : ℕ). v ≤ y) e h }
+
+    pub skip-goes-on : x < v → w .number < p .«num_pushed» → (w′ : Walk) → WalkOver i p w′ → w′ .number ≡ suc (w .number) → Skipping i p v w′
+    skip-goes-on h l w′ g k = record { walking = g; upto = omega arith; less = λ j m. go j m (ℕ-discrete j (w .number)) }
+      where
+        go : (j : ℕ) → j < w′ .number → Dec (j ≡ w .number) → getD (times i) j 0 < v
+        go j m (yes q) = subst (λ (y : ℕ). y < v) (e ∙ ap (λ (n : ℕ). getD (times i) n 0) (sym q)) h
+        go j m (no q) = s .less j (omega arith)
 
 -- ---- the answers
 

@@ -2,7 +2,7 @@
 use mathlib.Core.Path.{_≡_}
 use mathlib.Core.List.{List}
 use Prim.Native.Nat.{ℕ, _+_, _-_, _≤_, _<_}
-use lib.ListN.{getD}
+use lib.ListN.{length, getD}
 use Rattle.broadword.specs.Places.{Debruijn64, select}
 use Rattle.broadword.specs.declared.Found.the-variants.{At}
 use Rattle.elias_fano.specs.declared.image.Parts.{Parts}
@@ -53,3 +53,13 @@ pub record ScanSection (i : List ℕ) (p : Parts) (a b v : ℕ) (s : Section) : 
   pub some : s .number < s .end
   pub upto : s .end ≤ b
   pub above : (j : ℕ) → s .end ≤ j → j < b → v < getD (times i) j 0
+
+-- the values before the number k are below v
+abbrev pub AllBelow : List ℕ → ℕ → ℕ → Type 0
+AllBelow T v k = (j : ℕ) → j < k → getD T j 0 < v
+
+-- k is the number of the first value that is not below v, or how many there are
+pub record FirstFrom (T : List ℕ) (v k : ℕ) : Type 0 where
+  pub upto : k ≤ length T
+  pub less : AllBelow T v k
+  pub first : k < length T → v ≤ getD T k 0

@@ -1,4 +1,4 @@
-// Search for the first of equal values: halving, and a walk once 64 or fewer remain.
+// Search for the first of equal values, and for the first that is not below a value: halving, and a walk once 64 or fewer remain.
 //
 // The ones with every 32nd number are found by the index without a look at the high words. So the halving compares the one with such a number, at its
 // middle or next before.
@@ -11,9 +11,11 @@ ghost use Rattle.darray.specs.Select.{Indexed};
 ghost use Rattle.elias_fano.specs.Accept.{times, ofNumber};
 ghost use Rattle.elias_fano.specs.Ask.{Binsearch, BinsearchRange, firstIndex, asked, query};
 ghost use Rattle.elias_fano.specs.Opening.{Open, OneAt};
-ghost use Rattle.elias_fano_walk.specs.Searching.{Range, Searchable, HighStart, OnesBefore, HighSection, ScanStart, ScanSection};
-ghost use Rattle.elias_fano_walk.specs.Walking.{Walkable};
+ghost use Rattle.elias_fano_walk.specs.Searching.{Range, Searchable, HighStart, OnesBefore, HighSection, ScanStart, ScanSection, AllBelow, FirstFrom};
+ghost use Rattle.elias_fano_walk.specs.Walking.{Walkable, WalkOver};
+use crate::walk::Walk;
 use crate::walk::begin_at;
+use crate::walk::ended;
 use crate::walk::take;
 use bit_words::WORD_LEN;
 use bit_words::window;
@@ -226,6 +228,38 @@ fn scan_range(image: &[u64], p: Parts, section: Section, val: u64, places: &[u8;
         i += 1;
     }
     Number::Nothing
+}
+
+// The walk from the first value on that is not below val; those before `from` are.
+fn skip_below(image: &[u64], p: Parts, from: Walk, val: u64, places: &[u8; 64]) -> Walk
+    requires { ⌜ (Walkable (now image) p (now places) × WalkOver (now image) p from × (from .number ≤ p .«num_pushed») × AllBelow (times (now image)) val (from .number)) ⌝ }
+    ensures { λ r. ⌜ (WalkOver (now (image .entry)) p r × FirstFrom (times (now (image .entry))) val (r .number)) ⌝ }
+{
+    let end = p.num_pushed as usize;
+    let mut w = from;
+    while w.number < end {
+        let t = take(image, p, w, places);
+        if val <= t.value {
+            return w;
+        }
+        let rest = t.walk;
+        w = rest;
+    }
+    w
+}
+
+// The walk from the first value on that is not below val, of an opened image: by the halving of the search, and without a rank index.
+pub fn begin_from(image: &[u64], p: Parts, val: u64, table: &[u8; 2048], places: &[u8; 64]) -> Walk
+    requires { ⌜ Searchable (now image) p (now table) (now places) ⌝ }
+    ensures { λ r. ⌜ (WalkOver (now (image .entry)) p r × FirstFrom (times (now (image .entry))) val (r .number)) ⌝ }
+{
+    let end = p.num_pushed as usize;
+    if end == 0 {
+        return ended(0);
+    }
+    let section = scan_section(image, p, 0, end, val, table);
+    let from = begin_at(image, p, section.number, section.place);
+    skip_below(image, p, from, val, places)
 }
 
 // The number of the first value that is val, from a on and below b, of an opened image. A range that begins with val needs no search.
