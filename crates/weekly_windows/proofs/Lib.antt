@@ -1,0 +1,6 @@
+pub mod Claims
+pub mod Counting
+pub mod Cutting
+pub mod Inserting
+pub mod Joining
+pub mod Pairs

@@ -1,0 +1,3 @@
+pub mod Ordering
+pub mod Rows
+pub mod Windows
