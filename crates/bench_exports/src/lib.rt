@@ -10,6 +10,7 @@ ghost use Rattle.bit_vectors.specs.Walk.{Walking};
 ghost use Rattle.darray.specs.Select.{Indexed};
 
 mod record;
+mod windows;
 
 use bit_vectors::Count;
 use bit_vectors::Place;
