@@ -14,6 +14,8 @@ TOP = 2**64
 BLOCK = 1_024
 SUBBLOCK = 32
 FAR = 65_536
+WEEK = 604_800
+WINDOWS = 32
 
 
 class Bad(Exception):
@@ -377,6 +379,14 @@ class Record:
         out = times[k : k + count]
         return [len(out), *out, *[0] * (count - len(out))]
 
+    def windows(self, s, e, words):
+        """How many times from s up to e, e left out, have their second of the week in some window: 7, then 17."""
+        _, _, times = self.accepted()
+        pairs = list(zip(words[::2], words[1::2]))
+        if len(words) > 2 * WINDOWS or len(words) % 2 or any(a >= b or b > WEEK for a, b in pairs):
+            raise Refused(17)
+        return sum(1 for t in times if s <= t < e and any(a <= t % WEEK < b for a, b in pairs))
+
 
 class Sparse:
     """A sparse vector: a length and a rank choice, over the record's image. No words are a vector of zeros."""
@@ -467,11 +477,12 @@ class Console:
         if b"" in words:
             raise Bad
         name = words[0].decode("latin-1")
-        if name == "bits":
+        if name in LISTED:
+            before = LISTED[name]
             numbers = [number(w) for w in words[1:]]
-            if not 1 <= len(numbers) <= 1 + LENT:
+            if not before <= len(numbers) <= before + LENT:
                 raise Bad
-            return name, (numbers[0], numbers[1:])
+            return name, (*numbers[:before], numbers[before:])
         if name == "sums":
             return name, ([number(w) for w in words[1:]],)
         if name == "unary":
@@ -640,6 +651,9 @@ class Console:
         return words
 
 
+# Commands that list words, and how many numbers stand before these.
+LISTED = {"bits": 1, "windows": 2}
+
 FORMS = {
     "popcount": (number,),
     "lsb": (number,),
@@ -685,6 +699,7 @@ RECORD = {
     "has_rank": (),
     "walk": (number, few),
     "read": (number, few),
+    "windows": None,
     "from_bits": (choice,),
     "sums": None,
     "sums_access": (number,),
