@@ -178,8 +178,8 @@ def add_walks(add, m, count):
         add("read", k, steps)
 
 
-def record(add, u, n, times, ranks, count):
-    """The record of these times with each rank choice, by readings or, where there are many, by its words; and all questions."""
+def note_times(add, u, n, times, ranks):
+    """These times before a finish with each rank choice: by readings or, where there are many, by their words."""
     longest = max(len(Settings(u, n).image(rank, times)) for rank in ranks)
     if len(times) <= 24:
         begin(add, u, n, max(0, longest - size(u, n)))
@@ -187,6 +187,11 @@ def record(add, u, n, times, ranks, count):
             add("reading", t)
     else:
         lay(add, u, n, times, max(longest, size(u, n)))
+
+
+def record(add, u, n, times, ranks, count):
+    """The record of these times with each rank choice, and all questions."""
+    note_times(add, u, n, times, ranks)
     for rank in ranks:
         add("finish", rank)
         ask(add, u, n, times, count if rank else count // 2)

@@ -2,14 +2,16 @@
 
 The Rust has no image: an image that the model accepts, or that a call writes, is compared word for word with what the Rust
 builds of the same settings and times (`parts`), and each question over it with the Rust's. It has no reading out: a walk of as many steps is
-asked for it. It has a builder: a start, and readings and a finish while nothing but calls has altered the record since, are asked as they come.
-A record from bits or of prefix sums is asked as it comes, over the same bits, and so is a sparse vector from bits. Where the model takes length,
-choice and image for another sparse vector, the Rust's is put together of them, and each question asked.
+asked for it. It has no weekly windows: the times of its walk are counted here, in another way than the model's. It has a builder: a start, and
+readings and a finish while nothing but calls has altered the record since, are asked as they come. A record from bits or of prefix sums is asked as
+it comes, over the same bits, and so is a sparse vector from bits. Where the model takes length, choice and image for another sparse vector, the
+Rust's is put together of them, and each question asked.
 """
 
 import sys
+from bisect import bisect_left
 
-from model import BUFFER, HEAD, MOST, ON_BUFFER, SPARSE, TOP, Console, Refused, Settings
+from model import BUFFER, HEAD, MOST, ON_BUFFER, SPARSE, TOP, WEEK, Console, Refused, Settings
 from rust import ask, image
 
 MAX = TOP - 1
@@ -164,7 +166,7 @@ DIFFERENCES = [
     (
         "a walk over an empty record, in a debug build",
         ["buffer 7 0", "start 0 1", "finish 0", "walk 0 0"],
-        lambda c: c.name in ("walk", "read") and c.empty and c.rust == "panic",
+        lambda c: c.name in ("walk", "read", "windows") and c.empty and c.rust == "panic",
     ),
     (
         "3, prefix sums and a record from bits allocate",
@@ -216,6 +218,22 @@ BUILDING, ASKING, SUMS, FROM_BITS = 5, 11, 13, 15
 ONLY_IN_DEBUG = DIFFERENCES[ASKING - 1][0]
 
 
+def in_windows(times, s, e, words):
+    """The count of `windows`: the windows are joined and laid into each week that has a time, and between the ends of each the times are counted."""
+    joined = []
+    for a, b in sorted(zip(words[::2], words[1::2])):
+        if joined and a <= joined[-1][1]:
+            joined[-1][1] = max(b, joined[-1][1])
+        else:
+            joined.append([a, b])
+    count = 0
+    for week in {t // WEEK * WEEK for t in times}:
+        for a, b in joined:
+            first, last = max(s, week + a), min(e, week + b)
+            count += max(0, bisect_left(times, last) - bisect_left(times, first))
+    return count
+
+
 class Case:
     """A call that the Rust has: what the model answered, where the Rust's answer stands, and what the image is to be."""
 
@@ -244,6 +262,10 @@ class Case:
             walked = self.rust.split(" ") if self.rust else []
             out = [t for t in walked if t != "none"]
             return self.model == " ".join([str(len(out)), *out, *["0"] * (len(walked) - len(out))])
+        if self.name == "windows" and self.rust != "panic":
+            *times, end = self.rust.split(" ")
+            s, e, *words = (int(word.lstrip("0") or 0) for word in self.line.split(" ")[1:])
+            return end == "none" and self.model == str(in_windows(list(map(int, times)), s, e, words))
         if self.name in ("finish", "sarray_from_bits", *WHOLE) and self.model.isdigit():
             return self.rust == "ok"
         return self.model == self.rust
@@ -287,9 +309,9 @@ class Images:
         times = record.accepted()[2] if words else []
         if self.held != words:
             self.hold(line, answer, words, times)
-        if name in (*ASKED, *ITEMS):
+        if name in ("windows", *ASKED, *ITEMS):
             self.cases.append(Case(line, name, answer, len(self.sent), times=times, universe=words[0] if words else None))
-            self.sent.append(line.replace("read", "walk"))
+            self.sent.append(f"walk 0 {len(times) + 1}" if name == "windows" else line.replace("read", "walk"))
 
     def hold(self, line, answer, words, times):
         """The Rust is to hold the record of these words, and the same ones."""
@@ -373,7 +395,7 @@ def compare(oracle, lines):
         if name in SPARSE and name != "sarray" and answer != "refused 7":
             sparses.ask(line, name, answer, console)
         refused = answer == "refused 7" if name in ASKED else answer.startswith("refused")
-        if name in ("finish", "open", *ASKED, *ITEMS) and not refused:
+        if name in ("finish", "open", "windows", *ASKED, *ITEMS) and not refused:
             images.ask(line, name, answer, record)
     seen, agreed, asked = [0] * len(DIFFERENCES), 0, 0
     for stream in (builders, images, wholes, sparses):
