@@ -22,6 +22,7 @@ import questions
 import records
 import sarrays
 import sums
+import windows
 from model import LENT, LINE, ON_BUFFER, TOP, Console, used_words
 from rust import ask, image
 
@@ -1053,6 +1054,7 @@ def make(seed, count):
     for line in documented.lines(documented.TABLE):
         add(line)
     sarrays.add_sarrays(add, count // 50)
+    windows.add_windows(add, count // 25)
     add.note("the last line lacks its line feed")
     add("dump")
     return add.lines
@@ -1100,8 +1102,9 @@ def main():
     check_examples(oracle)
     records.check_examples(oracle)
     questions.check_examples()
-    for table in (sums.EXAMPLES, from_bits.EXAMPLES, sarrays.EXAMPLES):
+    for table in (sums.EXAMPLES, from_bits.EXAMPLES, sarrays.EXAMPLES, windows.EXAMPLES):
         records.hold(table)
+    windows.check_counts()
     held, others = documented.check()
     check_records(oracle)
     check_tables(oracle)
@@ -1110,7 +1113,7 @@ def main():
     record = records.compare(oracle, lines)
     if args.exhaustive:
         bits = together(bits, compare(oracle, exhaustive())[1:])
-        for section in (records, questions, sums, from_bits, sarrays):
+        for section in (records, questions, sums, from_bits, sarrays, windows):
             record = together(record, records.compare(oracle, section.exhaustive()))
     written = [a for a in answers if a is not None]
     if not args.exhaustive:
