@@ -4,13 +4,14 @@ use mathlib.Core.Bool.{Bool, cond, _&&_}
 use mathlib.Core.List.{List, [], _∷_}
 use Prim.Native.Nat.{ℕ, zero, suc}
 use lib.Dec.{eqb, ltb, leb}
-use lib.ListN.{replicate}
+use lib.ListN.{getD, drop, replicate}
 use Rattle.errors.specs.Answer.{Answer, value, none, done, refused, Outcome}
 use Rattle.elias_fano.specs.Accept.{Opening, parts, unopened, openOf, accepted}
 use Rattle.elias_fano.specs.Ask.{Select, Delta, Rank, Predecessor, Successor, Binsearch, BinsearchRange, Next, Len, Universe, HasRank, Question, nth, query, readFromOf}
+use Rattle.weekly_windows.specs.Windows.{countOf}
 use Rattle.console_text.specs.declared.line.Arguments.{Arguments}
 use Rattle.console_text.specs.Gathered.{Gathered, withByte, withNumber, withList, withAnswer, withSays}
-use Rattle.console_text.specs.Line.{wordsIn, placeAmong}
+use Rattle.console_text.specs.Line.{wordsIn, placeAmong, numbersFrom, valuesOf}
 use Rattle.console_text.specs.Says.{Says, answers, bad, unknown}
 
 -- ---- one answer, by the places in the list of commands
@@ -110,3 +111,17 @@ listedOf k r i g = cond (fitsListOf r) (cond (eqb k 6) (walkOf i (r .a) (r .b) g
 
 abbrev pub lineOf : ℕ → Arguments → List ℕ → Gathered → Gathered
 lineOf k r i g = withByte (listedOf k r i g) 10
+
+-- ---- `windows S E W..`
+
+-- a span, and no more words than a line may list
+abbrev pub fitsWindowsOf : Arguments → Bool
+fitsWindowsOf r = r .fit && (leb 2 (r .n) && leb (r .n) 4098)
+
+-- of the numbers xs: the span, and the words of the windows
+abbrev pub inWindows : List ℕ → List ℕ → Says
+inWindows i xs = answers (countOf i (drop 2 xs) (getD xs 0 0) (getD xs 1 0))
+
+-- of the words fs after the name
+unfoldable pub windowsOf : List (List ℕ) → List ℕ → Says
+windowsOf fs i = cond (fitsWindowsOf (numbersFrom 0 0 0 0 0 fs)) (inWindows i (valuesOf fs)) bad

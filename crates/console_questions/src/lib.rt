@@ -7,6 +7,7 @@ ghost use Rattle.console_questions.specs.Questions.{takesOf, answerOf, f
 pub mod ask;
 mod read;
 pub mod walk;
+pub mod windows;
 
 use console_text::line;
 use console_text::line::Arguments;

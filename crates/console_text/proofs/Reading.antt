@@ -166,7 +166,7 @@ module _ (t : List ℕ) (at : ℕ) (h : length t ≤ at) where
 
 -- ---- all the numbers of a line
 
-length-values : (fs : List (List ℕ)) → length (valuesOf fs) ≡ length fs
+pub length-values : (fs : List (List ℕ)) → length (valuesOf fs) ≡ length fs
 unfolding valuesOf
 length-values [] = refl
 length-values (t ∷ ts) = ap suc (length-values ts)
