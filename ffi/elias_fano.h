@@ -36,7 +36,7 @@ extern "C" {
 
 /* Refusals. A refused call alters no word, and says why; 0 is no refusal. They are tested in this order: ef_new 1, 2, 3; ef_push 7, 3, 4,
  * 5, 6; ef_build 7 by the builder's numbers, 3 by the size of the start, 7 by the words, 3 by the image's length; ef_from_bits 13, 10, 11, 2, 3;
- * ef_sarray_from_bits 13, 2, 3; ef_sums_from_slice 2, 12, 3. */
+ * ef_sarray_from_bits 13, 2, 3; ef_sums_from_slice 2, 12, 3; ef_count_in_windows 7, 17. */
 enum {
     EF_NO_VALUES = 1,       /* ef_new: num_vals is 0 */
     EF_TOO_MANY = 2,        /* ef_new: num_vals is over 16,777,216; ef_from_bits, ef_sarray_from_bits, ef_sums_from_slice: more ones or items */
@@ -50,7 +50,8 @@ enum {
     EF_NO_BITS = 10,        /* ef_from_bits: there are 0 bits */
     EF_NO_ONES = 11,        /* ef_from_bits: none of them is 1 */
     EF_SUM_TOO_LARGE = 12,  /* ef_sums_from_slice: the sum is 2^64 - 1 or more */
-    EF_INVALID_BITS = 13    /* ef_from_bits, ef_sarray_from_bits: the words are too few for the bits, or a bit past them in the last word used is 1 */
+    EF_INVALID_BITS = 13,   /* ef_from_bits, ef_sarray_from_bits: the words are too few for the bits, or a bit past them in the last word used is 1 */
+    EF_INVALID_WINDOWS = 17 /* ef_count_in_windows: more than 32 windows, half a window, or one with a not below b or b over 604,800 */
 };
 
 /* How far a record is written: 32 bytes. It may be copied and stored; one that no run leaves, as all zeros, is refused with 7. */
@@ -133,6 +134,12 @@ EfAnswer ef_has_rank(const uint64_t *image, size_t len);
 
 /* Writes the values with the numbers from k on to `out`, as many as there are or as it takes, and answers how many. The later words stay. */
 EfAnswer ef_read_from(const uint64_t *image, size_t len, size_t k, uint64_t *out, size_t out_len);
+
+/* How many values from `from` on and below `to` are in weekly windows: those whose remainder by 604,800, the seconds of a week, is in some window. A window is
+ * two words of `windows`, a and b, with a below b and b at most 604,800: a belongs to it, b does not. There are 32 at most (count 64), in any order; they may
+ * overlap, and a value in two of them counts once. No windows count 0, and so does a span whose `to` is not above `from`. With seconds since a Monday 00:00 as
+ * values, Monday 06:00 to 08:00 is the window 21600, 28800. Needs no rank index. After opening it costs a search, and a step for each value of the span. */
+EfAnswer ef_count_in_windows(const uint64_t *image, size_t len, const uint64_t *windows, size_t count, uint64_t from, uint64_t to);
 
 /* ---- many questions a call
  *

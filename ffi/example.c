@@ -191,6 +191,25 @@ static void questions(const uint64_t *w, size_t len) {
     must(is_value(ef_read_from(w, len, 0, out, 1), 1) && out[0] == 3 && out[1] == 4, "read_from into one word");
 }
 
+/* Starts inside weekly windows, of the values 3, 4, 4 and 13. */
+static void windows(const uint64_t *w, size_t len) {
+    static const uint64_t some[] = {4, 13, 3, 5}, half[] = {4, 13, 5}, wrong[] = {5, 5}, late[] = {0, 604801}, week[] = {0, 604800};
+    uint64_t many[66];
+    for (size_t i = 0; i < 66; i++) {
+        many[i] = i % 2 == 0 ? 3 : 4;
+    }
+    must(is_value(ef_count_in_windows(w, len, some, 2, 0, 20), 2), "13 is not in the window that ends there, 4 is in the one that begins there");
+    must(is_value(ef_count_in_windows(w, len, some, 4, 0, 20), 3), "a value in two windows counts once");
+    must(is_value(ef_count_in_windows(w, len, week, 2, 4, 13), 2) && is_value(ef_count_in_windows(w, len, week, 2, 0, UINT64_MAX), 4), "the whole week");
+    must(is_value(ef_count_in_windows(w, len, week, 2, 13, 4), 0) && is_value(ef_count_in_windows(w, len, week, 0, 0, 20), 0), "a reversed span, no windows");
+    must(is_value(ef_count_in_windows(w, len, many, 64, 0, 20), 1), "32 windows");
+    must(is_refused(ef_count_in_windows(w, len, many, 66, 0, 20), EF_INVALID_WINDOWS), "33 windows");
+    must(is_refused(ef_count_in_windows(w, len, half, 3, 20, 0), EF_INVALID_WINDOWS), "half a window, also for a reversed span");
+    must(is_refused(ef_count_in_windows(w, len, wrong, 2, 0, 20), EF_INVALID_WINDOWS), "a window that is empty");
+    must(is_refused(ef_count_in_windows(w, len, late, 2, 0, 20), EF_INVALID_WINDOWS), "a window that ends after the week");
+    must(is_refused(ef_count_in_windows(w, len - 1, half, 3, 0, 20), EF_INVALID), "no image, before no windows");
+}
+
 /* Many at once are one after the other; three arguments, and room for two answers and a half. */
 static void at_once(const char *what, const uint64_t *w, size_t len, const uint64_t args[3],
                     EfAnswer (*many)(const uint64_t *, size_t, const uint64_t *, size_t, uint64_t *, size_t), const EfAnswer one[3]) {
@@ -385,6 +404,7 @@ int main(void) {
     record();
     going_on();
     questions(image, len);
+    windows(image, len);
     many_questions(image, len);
     without_rank();
     kept(image, len);

@@ -41,6 +41,7 @@ enum Refusal {
     NoOnes,
     SumTooLarge,
     InvalidBits,
+    InvalidWindows,
 }
 
 fn refusal(number: u64) -> Refusal {
@@ -58,6 +59,7 @@ fn refusal(number: u64) -> Refusal {
         11 => Refusal::NoOnes,
         12 => Refusal::SumTooLarge,
         13 => Refusal::InvalidBits,
+        17 => Refusal::InvalidWindows,
         _ => unreachable!("the library has no other refusal"),
     }
 }
@@ -74,6 +76,7 @@ extern "C" {
     fn ef_successor(image: *const u64, len: usize, value: u64) -> EfAnswer;
     fn ef_binsearch(image: *const u64, len: usize, value: u64) -> EfAnswer;
     fn ef_binsearch_range(image: *const u64, len: usize, a: usize, b: usize, value: u64) -> EfAnswer;
+    fn ef_count_in_windows(image: *const u64, len: usize, windows: *const u64, count: usize, from: u64, to: u64) -> EfAnswer;
     fn ef_len(image: *const u64, len: usize) -> EfAnswer;
     fn ef_is_empty(image: *const u64, len: usize) -> EfAnswer;
     fn ef_universe(image: *const u64, len: usize) -> EfAnswer;
@@ -266,6 +269,29 @@ fn other_questions(image: &[u64], times: &[u64], universe: u64) {
     assert_eq!(out[..n - 1_000], times[1_000..]);
     assert_eq!(out[n - 1_000..], [u64::MAX; 1_000]);
     assert_eq!(read_from(image, n, &mut out), Ok(Some(0)));
+}
+
+fn count_in_windows(image: &[u64], windows: &[u64], from: u64, to: u64) -> Answer {
+    answer(unsafe { ef_count_in_windows(image.as_ptr(), image.len(), windows.as_ptr(), windows.len(), from, to) })
+}
+
+/// Starts in the mornings and evenings of Monday to Friday, by days, beside a count of the list.
+fn heating(image: &[u64], times: &[u64]) {
+    const HOUR: u64 = 3_600;
+    const WEEK: u64 = 168 * HOUR;
+    let windows: Vec<u64> = (0..5).flat_map(|day| [6, 9, 16, 22].map(|hour| (24 * day + hour) * HOUR)).collect();
+    let inside = |t: u64| windows.chunks(2).any(|w| (w[0]..w[1]).contains(&(t % WEEK)));
+    let counted = |from, to| times.iter().filter(|&&t| from <= t && t < to && inside(t)).count() as u64;
+    let days = times[times.len() - 1] / (24 * HOUR) + 2;
+    let each: Vec<u64> = (0..days).map(|day| (24 * day * HOUR, 24 * (day + 1) * HOUR)).map(|(from, to)| {
+        let count = counted(from, to);
+        assert_eq!(count_in_windows(image, &windows, from, to), Ok(Some(count)));
+        count
+    }).collect();
+    assert_eq!(count_in_windows(image, &windows, 0, u64::MAX), Ok(Some(each.iter().sum())));
+    assert_eq!(count_in_windows(image, &[0, WEEK], 0, u64::MAX), Ok(Some(times.len() as u64)));
+    assert_eq!(count_in_windows(image, &[0, WEEK + 1], 0, u64::MAX), Err(Refusal::InvalidWindows));
+    assert_eq!(count_in_windows(&image[1..], &[0], 0, u64::MAX), Err(Refusal::Invalid));
 }
 
 type FromBits = unsafe extern "C" fn(*const u64, usize, usize, bool, *mut u64, usize) -> EfAnswer;
@@ -465,6 +491,7 @@ fn main() {
     assert_eq!(select(&[], 0), Err(Refusal::Invalid));
     questions(image, &times, now + 1);
     other_questions(image, &times, now + 1);
+    heating(image, &times);
     prefix_sums(&(0..times.len()).map(|k| gap(&times, k).unwrap()).collect::<Vec<_>>(), image);
     // starts of different seconds; then a block of zeros, and blocks of ones, too far apart for 16 bits
     let mut places = times.clone();

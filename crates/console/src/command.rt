@@ -6,6 +6,7 @@ use crate::bits::Told;
 use crate::index;
 use crate::walk;
 use crate::words;
+use console_questions::windows;
 use console_record::Record;
 use console_record::show;
 use console_sarray::Sparse;
@@ -204,6 +205,21 @@ fn summed(
     )
 }
 
+// `windows S E W..`
+fn windowed(
+    text: &[u8],
+    end: usize,
+    buffer: &[u64; 65536],
+    out: &mut [u8; 65536],
+    s: State,
+) -> State {
+    let mut t = s;
+    let held = s.record;
+    let image = line::first(buffer, held.image);
+    t.at = output::reply_line(out, s.at, windows::answer(text, end, image));
+    t
+}
+
 // A command that takes a few numbers and has one answer: what the first two sections do not know is asked of the record.
 fn numbered(
     name: &[u8],
@@ -302,7 +318,7 @@ pub fn answer(
     let end = line::word_end(text, 0);
     let name = &text[..end];
     let k = line::place_in(
-        b"bits unary index dump words builder walk read sums_walk sums",
+        b"bits unary index dump words builder walk read sums_walk sums windows",
         name,
     );
     if k == 0 {
@@ -315,6 +331,9 @@ pub fn answer(
     }
     if k == 9 {
         return summed(text, end, buffer, out, s);
+    }
+    if k == 10 {
+        return windowed(text, end, buffer, out, s);
     }
     let r = line::numbers(text, end);
     if k < 9 {

@@ -1,6 +1,7 @@
 // One question a call. Each opens the image first and decides 7 by it, in time linear in its words.
 ghost use mathlib.Core.Path.{_≡_};
 ghost use Rattle.elias_fano.specs.Ask.{Select, Delta, Rank, Predecessor, Successor, Binsearch, BinsearchRange, Len, IsEmpty, Universe, HasRank, query, readFromOf};
+ghost use Rattle.weekly_windows.specs.Windows.{countOf};
 ghost use Rattle.ffi.specs.Answers.{efAnswer};
 use crate::EfAnswer;
 use crate::tell::tell_number;
@@ -18,6 +19,7 @@ use elias_fano_queries::rank::rank;
 use elias_fano_walk::read::read_from;
 use elias_fano_walk::search::binsearch;
 use elias_fano_walk::search::binsearch_range;
+use weekly_windows::count;
 
 // The value with the number k.
 #[no_mangle]
@@ -113,4 +115,17 @@ pub extern "C" fn ef_read_from(words: &[u64], k: usize, out: &mut [u64]) -> EfAn
     ensures { λ r. ⌜ ((r ≡ efAnswer (readFromOf (now (words .entry)) k (now (out .entry)) .answer)) × (now (out .exit) ≡ readFromOf (now (words .entry)) k (now (out .entry)) .words)) ⌝ }
 {
     tell_number(read_from(words, k, &mut *out))
+}
+
+// How many values from `from` on and below `to` are in the weekly windows.
+#[no_mangle]
+pub extern "C" fn ef_count_in_windows(
+    words: &[u64],
+    windows: &[u64],
+    from: u64,
+    to: u64,
+) -> EfAnswer
+    ensures { λ r. ⌜ r ≡ efAnswer (countOf (now (words .entry)) (now (windows .entry)) from to) ⌝ }
+{
+    tell_number(count(words, windows, from, to))
 }

@@ -145,17 +145,17 @@ module _ (i : List ℕ) (ok : accepted i ≡ true) (p : Parts) (ep : p ≡ parts
 module _ (T ws : List ℕ) (s e : ℕ) where
   pub answer-refused : areWindows ws ≡ false → refused 17 ≡ answerOf T ws s e
   unfolding answerOf
-  answer-refused h = sym (ap (λ (b : Bool). cond b (value (countIn ws s e T)) (refused 17)) h)
+  answer-refused h = sym (simp h)
 
   pub answer-is : areWindows ws ≡ true → (n : ℕ) → n ≡ countIn ws s e T → value n ≡ answerOf T ws s e
   unfolding answerOf
-  answer-is h n q = ap value q ∙ sym (ap (λ (b : Bool). cond b (value (countIn ws s e T)) (refused 17)) h)
+  answer-is h n q = sym (simp h (ap value (sym q)))
 
 module _ (i ws : List ℕ) (s e : ℕ) where
   pub count-opened : accepted i ≡ true → (a : Answer) → a ≡ answerOf (times i) ws s e → a ≡ countOf i ws s e
   unfolding countOf
-  count-opened h a q = q ∙ sym (ap (λ (b : Bool). cond b (answerOf (times i) ws s e) (refused 7)) h)
+  count-opened h a q = q ∙ sym (simp h)
 
   pub count-refused : (r : Opened) (x : Refusal) → ofOpened r ≡ openOf i → r ≡ opened.Refused x → refused (numberOf x) ≡ countOf i ws s e
   unfolding countOf
-  count-refused r x er q = let d = answers.not-open i r x er q in ap refused (d .1) ∙ sym (ap (λ (b : Bool). cond b (answerOf (times i) ws s e) (refused 7)) (d .0))
+  count-refused r x er q = let d = answers.not-open i r x er q in ap refused (d .1) ∙ sym (simp (d .0))

@@ -27,7 +27,7 @@ returns : tie.Need-returns Inv-loop μ-loop
 returns c =
     let s = c .before .before .before .before .before .before in
     let l = c .before .before .before .before .loop in
-    counting.counts-stop (s .args .image .now) (s .pre .0 .ok) (s .args .p) (s .pre .0 .parts) _ (s .args .e) _ (l .w) (l .count) (l .inv .1) (c .before .before .if1 .taken) _ (c .before .take .ensures .2) (c .if2 .taken)
+    counting.counts-stop (s .args .image .now) (s .pre .0 .ok) (s .args .p) (s .pre .0 .parts) _ (s .args .e) _ (l .w) (l .count) (l .inv .1) (c .before .before .if1 .taken) _ (c .before .take .ensures .2) (omega (arith, c .if2 .taken))
 
 is-inside-requires : tie.Need-is-inside-requires Inv-loop μ-loop
 is-inside-requires c κs = let s = c .before .before .before .before .before .before in (s .pre .2, s .pre .3)
@@ -47,7 +47,7 @@ loop-again c =
     let s = c .before .before .before .before .before .before .before .before in
     let l = c .before .before .before .before .before .before .loop in
     let t = c .before .before .before .take .ensures in
-    (l .inv .0, counting.counts-more (s .args .image .now) (s .pre .0 .ok) (s .args .p) (s .pre .0 .parts) _ (s .args .e) _ (l .w) (l .count) (l .inv .1) (c .before .before .before .before .if1 .taken) _ (t .2) (c .before .before .if2 .left) _ (c .before .is-inside .ensures) _ (t .0) (t .1))
+    (l .inv .0, counting.counts-more (s .args .image .now) (s .pre .0 .ok) (s .args .p) (s .pre .0 .parts) _ (s .args .e) _ (l .w) (l .count) (l .inv .1) (c .before .before .before .before .if1 .taken) _ (t .2) (omega (arith, c .before .before .if2 .left)) _ (c .before .is-inside .ensures) _ (t .0) (t .1))
 
 returns-2 : tie.Need-returns-2 Inv-loop μ-loop
 returns-2 c =

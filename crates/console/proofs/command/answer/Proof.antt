@@ -47,20 +47,26 @@ summed-requires c κs = search needs
 returns-5 : tie.Need-returns-5
 returns-5 c = search needs
 
+windowed-requires : tie.Need-windowed-requires
+windowed-requires c κs = search needs
+
+returns-6 : tie.Need-returns-6
+returns-6 c = search needs
+
 numbers-requires : tie.Need-numbers-requires
 numbers-requires c κs = search needs
 
 recorded-requires : tie.Need-recorded-requires
 recorded-requires c κs = search needs
 
-returns-6 : tie.Need-returns-6
-returns-6 c = search needs
+returns-7 : tie.Need-returns-7
+returns-7 c = search needs
 
 numbered-requires : tie.Need-numbered-requires
 numbered-requires c κs = search needs
 
-returns-7 : tie.Need-returns-7
-returns-7 c = search needs
+returns-8 : tie.Need-returns-8
+returns-8 c = search needs
 
 pub answer-spec : {M : Type 1} → statement M
 answer-spec =
@@ -80,8 +86,10 @@ answer-spec =
     returns-4
     summed-requires
     returns-5
+    windowed-requires
+    returns-6
     numbers-requires
     recorded-requires
-    returns-6
+    returns-7
     numbered-requires
-    returns-7)
+    returns-8)

@@ -23,7 +23,7 @@ returns : tie.Need-returns Inv-loop μ-loop
 returns c =
     let s = c .before .before .before .before .before .before .before in
     let l = c .before .before .before .before .before .loop in
-    (l .inv .1 .walking, searched.skip-stops (s .args .image .now) (s .pre .0 .ok) (s .args .p) (s .pre .0 .parts) (s .args .val) (l .w) (l .inv .1) _ (c .before .before .take .ensures .2) (c .if2 .taken))
+    (l .inv .1 .walking, searched.skip-stops (s .args .image .now) (s .pre .0 .ok) (s .args .p) (s .pre .0 .parts) (s .args .val) (l .w) (l .inv .1) _ (c .before .before .take .ensures .2) (omega (arith, c .if2 .taken)))
 
 loop-less : tie.Need-loop-less Inv-loop μ-loop
 loop-less c = let t = c .before .before .before .take .ensures in omega (arith, t .1, c .before .before .before .before .if1 .taken)
@@ -33,7 +33,7 @@ loop-again c =
     let s = c .before .before .before .before .before .before .before .before in
     let l = c .before .before .before .before .before .before .loop in
     let t = c .before .before .before .take .ensures in
-    (l .inv .0, searched.skip-goes-on (s .args .image .now) (s .pre .0 .ok) (s .args .p) (s .pre .0 .parts) (s .args .val) (l .w) (l .inv .1) _ (t .2) (c .before .if2 .left) (c .before .before .before .before .if1 .taken) _ (t .0) (t .1))
+    (l .inv .0, searched.skip-goes-on (s .args .image .now) (s .pre .0 .ok) (s .args .p) (s .pre .0 .parts) (s .args .val) (l .w) (l .inv .1) _ (t .2) (omega (arith, c .before .if2 .left)) (c .before .before .before .before .if1 .taken) _ (t .0) (t .1))
 
 returns-2 : tie.Need-returns-2 Inv-loop μ-loop
 returns-2 c =

@@ -26,17 +26,17 @@ add-k : tie.Need-add-k Inv-loop μ-loop
 add-k c = omega (arith, c .before .before .before .pre .0 .few, c .before .before .loop .inv .0)
 
 loop-less : tie.Need-loop-less Inv-loop μ-loop
-loop-less c = let s = c .before .before .before in let l = c .before .before .loop in omega (arith, cutting.cut-passed (s .args .cuts .now) (s .args .n) (s .args .r) (s .pre .0) (s .pre .1) (l .k) (l .inv .0) (l .inv .1) (c .if1 .taken) .0)
+loop-less c = let s = c .before .before .before in let l = c .before .before .loop in omega (arith, cutting.cut-passed (s .args .cuts .now) (s .args .n) (s .args .r) (s .pre .0) (s .pre .1) (l .k) (l .inv .0) (l .inv .1) (omega (arith, c .if1 .taken)) .0)
 
 loop-again : tie.Need-loop-again Inv-loop μ-loop
 loop-again c =
     let s = c .before .before .before in
     let l = c .before .before .loop in
-    let p = cutting.cut-passed (s .args .cuts .now) (s .args .n) (s .args .r) (s .pre .0) (s .pre .1) (l .k) (l .inv .0) (l .inv .1) (c .if1 .taken) in
+    let p = cutting.cut-passed (s .args .cuts .now) (s .args .n) (s .args .r) (s .pre .0) (s .pre .1) (l .k) (l .inv .0) (l .inv .1) (omega (arith, c .if1 .taken)) in
     (omega (arith, p .0), p .1)
 
 returns : tie.Need-returns Inv-loop μ-loop
-returns c = let s = c .before .before .before in let l = c .before .before .loop in cutting.cuts-end (s .args .cuts .now) (s .args .n) (s .args .r) (s .pre .0) (s .pre .1) (l .k) (l .inv .0) (l .inv .1) (c .if1 .left)
+returns c = let s = c .before .before .before in let l = c .before .before .loop in cutting.cuts-end (s .args .cuts .now) (s .args .n) (s .args .r) (s .pre .0) (s .pre .1) (l .k) (l .inv .0) (l .inv .1) (omega (arith, c .if1 .left))
 
 pub upto-spec : {M : Type 1} → statement M
 upto-spec = tie.close (tie.spec Inv-loop μ-loop loop-holds mul-if1 element-copy-out-if1 add-k loop-less loop-again returns)
