@@ -11,6 +11,7 @@ mod sarray;
 #[cfg(feature = "sdsl")]
 mod sdsl;
 mod table;
+mod windows;
 
 use std::hint::black_box;
 
@@ -267,6 +268,8 @@ fn main() {
         .filter_map(|n| bulk::Sums::new(n, random))
         .collect();
     let vectors = sarray::vectors(random);
+    // From the seed again, so that the inputs of the other rows are as they were.
+    let counted = windows::lists(&mut Random(SEED));
     for _ in 0..ROUNDS {
         round(&mut table);
         records.iter().for_each(|r| r.rows(&mut table));
@@ -274,11 +277,13 @@ fn main() {
         bits.iter().for_each(|b| b.rows(&mut table));
         sums.iter().for_each(|s| s.rows(&mut table));
         vectors.iter().for_each(|v| v.rows(&mut table));
+        counted.iter().for_each(|c| c.rows(&mut table));
     }
     table.print();
     further("record", |table| {
         vectors.iter().for_each(|v| v.opened(table))
     });
+    further("walk", |table| counted.iter().for_each(|c| c.walked(table)));
     second_peer(random);
     earlier_port(&records, random);
 }

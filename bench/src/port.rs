@@ -79,6 +79,14 @@ mod c {
             ks: *const usize,
             j: usize,
         ) -> u64;
+        pub fn bench_count_in_windows(
+            image: *const u64,
+            n: usize,
+            windows: *const u64,
+            m: usize,
+            spans: *const u64,
+            j: usize,
+        ) -> u64;
         pub fn ef_read_from(
             image: *const u64,
             n: usize,
@@ -351,6 +359,12 @@ pub unsafe fn select(
         ks.as_ptr(),
         ks.len(),
     )
+}
+
+/// How many times of the spans, two words each, are in the windows, in all.
+pub fn count_in_windows(image: &[u64], windows: &[u64], spans: &[u64]) -> u64 {
+    let (n, m, j) = (image.len(), windows.len(), spans.len());
+    unsafe { c::bench_count_in_windows(image.as_ptr(), n, windows.as_ptr(), m, spans.as_ptr(), j) }
 }
 
 /// How many times from the first on were written.

@@ -154,6 +154,25 @@ pub fn record_walk(ef: &EliasFano, steps: usize) -> u64 {
     ef.iter(0).take(steps).fold(0, u64::wrapping_add)
 }
 
+/// How many times of the spans, two words each, are in the windows, in all: from the rank of a span's beginning on, each time by all windows.
+#[inline(never)]
+pub fn count_in_windows(ef: &EliasFano, windows: &[u64], spans: &[u64]) -> u64 {
+    let inside = |t: u64| {
+        let second = t % 604_800;
+        windows
+            .chunks_exact(2)
+            .any(|w| w[0] <= second && second < w[1])
+    };
+    let count = |span: &[u64]| {
+        let first = ef.rank(span[0]).unwrap_or(ef.len());
+        ef.iter(first)
+            .take_while(|&t| t < span[1])
+            .filter(|&t| inside(t))
+            .count() as u64
+    };
+    spans.chunks_exact(2).map(count).sum()
+}
+
 /// How many times from the first on were written.
 #[inline(never)]
 pub fn record_read(ef: &EliasFano, out: &mut [u64]) -> u64 {

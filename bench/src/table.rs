@@ -212,7 +212,6 @@ impl Table {
     }
 
     /// The same where the peer does something else first too: each side as all of it, and what comes before.
-    #[cfg(feature = "before")]
     pub fn row_after_both<T, U>(
         &mut self,
         what: &str,

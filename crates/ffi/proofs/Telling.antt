@@ -7,7 +7,7 @@ use lib.Dec.{eqb}
 use Rattle.errors.specs.Answer.{Answer, value, done, refused, Outcome}
 use Rattle.errors.specs.Refusal.{numberOf}
 use Rattle.errors.specs.declared.Refusal.{Refusal}
-use Rattle.errors.specs.declared.Refusal.the-variants.{NoValues, TooMany, ShortBuffer, Decreasing, OutOfUniverse, Full, Invalid, NoRankIndex, RangeOutOfBounds, NoBits, NoOnes, SumTooLarge, InvalidBits, WideBits, NoRoom, OutOfBounds}
+use Rattle.errors.specs.declared.Refusal.the-variants.{NoValues, TooMany, ShortBuffer, Decreasing, OutOfUniverse, Full, Invalid, NoRankIndex, RangeOutOfBounds, NoBits, NoOnes, SumTooLarge, InvalidBits, WideBits, NoRoom, OutOfBounds, InvalidWindows}
 use Rattle.elias_fano.specs.declared.builder.Builder.{Builder}
 use Rattle.elias_fano.specs.declared.builder.Built.{Built}
 use Rattle.elias_fano.specs.declared.builder.Built.the-variants as built
@@ -46,6 +46,7 @@ number-some InvalidBits = refl
 number-some WideBits = refl
 number-some NoRoom = refl
 number-some OutOfBounds = refl
+number-some InvalidWindows = refl
 
 refusal-is : (k : ℕ) (e : Refusal) → k ≡ numberOf e → ofRefusal k ≡ refused (numberOf e)
 refusal-is k e h = ap ofRefusal h ∙ ap (λ (b : Bool). cond b done (refused (numberOf e))) (number-some e)

@@ -3,6 +3,8 @@
 // Windows that overlap or touch are joined. What is left is kept as the seconds of the week where a window begins or ends, in turn and in order, the cuts; the end of the
 // week stands after them. A second is in a window if the number of cuts at or below it is odd. For each part of the week of 4,096 seconds a table says how many
 // cuts are at or below its first second, so the next few are compared and no others: two, mostly.
+//
+// But for `are_windows` the functions here are inner: they demand windows in form, or cuts as `order` leaves them.
 ghost use mathlib.Core.Bool.{true, _&&_};
 ghost use mathlib.Core.Path.{_≡_};
 ghost use mathlib.Core.List.{[]};
