@@ -1,5 +1,5 @@
 -- Laws of `windows S E W..`, by cases. fs are the words after the name, r its numbers. Assumes nothing.
-use mathlib.Core.Path.{_≡_, refl, sym, ap, _∙_, subst}
+use mathlib.Core.Path.{_≡_, sym, ap, _∙_}
 use mathlib.Core.Bool.{Bool, true, false, cond, _&&_}
 use mathlib.Core.List.{List}
 use Prim.Native.Nat.{ℕ, _+_, _-_, _≤_, _<_}
@@ -13,7 +13,7 @@ use Rattle.console_text.specs.declared.line.Arguments.{Arguments}
 use Rattle.console_text.specs.Line.{numbersFrom, valuesOf}
 use Rattle.console_text.specs.Says.{bad}
 use Rattle.console_text.proofs.Reading.{numbers-many}
-use Rattle.console_questions.specs.Questions.{fitsWindowsOf, inWindows, windowsOf}
+use Rattle.console_questions.specs.Questions.{fitsWindowsOf, countSays, windowsOf}
 
 module _ (r : Arguments) where
   pub fits-unfit : r .fit ≡ false → false ≡ fitsWindowsOf r
@@ -26,14 +26,14 @@ module _ (r : Arguments) where
   fits-some e h = sym (simp (e, le-leb 2 (r .n) h))
 
 module _ (fs : List (List ℕ)) (i : List ℕ) (r : Arguments) (e : r ≡ numbersFrom 0 0 0 0 0 fs) where
-  by-fits : (b : Bool) → fitsWindowsOf r ≡ b → windowsOf fs i ≡ cond b (inWindows i (valuesOf fs)) bad
+  by-fits : (b : Bool) → fitsWindowsOf r ≡ b → windowsOf fs i ≡ cond b (countSays i (valuesOf fs)) bad
   unfolding windowsOf
-  by-fits b h = ap (λ (t : Bool). cond t (inWindows i (valuesOf fs)) bad) (ap fitsWindowsOf (sym e) ∙ h)
+  by-fits b h = ap (λ (t : Bool). cond t (countSays i (valuesOf fs)) bad) (ap fitsWindowsOf (sym e) ∙ h)
 
   pub windows-bad : fitsWindowsOf r ≡ false → bad ≡ windowsOf fs i
   windows-bad h = sym (by-fits false h)
 
-  pub windows-told : fitsWindowsOf r ≡ true → inWindows i (valuesOf fs) ≡ windowsOf fs i
+  pub windows-told : fitsWindowsOf r ≡ true → countSays i (valuesOf fs) ≡ windowsOf fs i
   windows-told h = sym (by-fits true h)
 
   -- there are so many words, a span among them, and no more than fit

@@ -119,9 +119,9 @@ abbrev pub fitsWindowsOf : Arguments → Bool
 fitsWindowsOf r = r .fit && (leb 2 (r .n) && leb (r .n) 4098)
 
 -- of the numbers xs: the span, and the words of the windows
-abbrev pub inWindows : List ℕ → List ℕ → Says
-inWindows i xs = answers (countOf i (drop 2 xs) (getD xs 0 0) (getD xs 1 0))
+abbrev pub countSays : List ℕ → List ℕ → Says
+countSays i xs = answers (countOf i (drop 2 xs) (getD xs 0 0) (getD xs 1 0))
 
 -- of the words fs after the name
 unfoldable pub windowsOf : List (List ℕ) → List ℕ → Says
-windowsOf fs i = cond (fitsWindowsOf (numbersFrom 0 0 0 0 0 fs)) (inWindows i (valuesOf fs)) bad
+windowsOf fs i = cond (fitsWindowsOf (numbersFrom 0 0 0 0 0 fs)) (countSays i (valuesOf fs)) bad

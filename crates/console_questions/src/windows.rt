@@ -4,7 +4,7 @@ ghost use Prim.Native.Nat.{_≤_};
 ghost use lib.ListN.{length, drop};
 ghost use Rattle.console_text.specs.Line.{fields, valuesOf};
 ghost use Rattle.console_text.specs.Says.{saysOf};
-ghost use Rattle.console_questions.specs.Questions.{fitsWindowsOf, inWindows, windowsOf};
+ghost use Rattle.console_questions.specs.Questions.{fitsWindowsOf, countSays, windowsOf};
 use crate::ask;
 use console_text::line;
 use console_text::line::Arguments;
@@ -27,7 +27,7 @@ fn fits(r: Arguments) -> bool
 // The span, and the words after it.
 fn counted(numbers: &[u64], image: &[u64]) -> Reply
     requires { ⌜ 2 ≤ length (now numbers) ⌝ }
-    ensures { λ t. ⌜ saysOf t ≡ inWindows (now (image .entry)) (now (numbers .entry)) ⌝ }
+    ensures { λ t. ⌜ saysOf t ≡ countSays (now (image .entry)) (now (numbers .entry)) ⌝ }
 {
     ask::number(count(image, &numbers[2..], numbers[0], numbers[1]))
 }
@@ -35,7 +35,7 @@ fn counted(numbers: &[u64], image: &[u64]) -> Reply
 // Of the n numbers after the word that ends at `end`, by way of `numbers`.
 fn stored(text: &[u8], end: usize, n: usize, numbers: &mut [u64], image: &[u64]) -> Reply
     requires { ⌜ ((n ≡ length (fields (drop end (now text)))) × (2 ≤ n) × (n ≤ length (now numbers))) ⌝ }
-    ensures { λ t. ⌜ saysOf t ≡ inWindows (now (image .entry)) (valuesOf (fields (drop end (now (text .entry))))) ⌝ }
+    ensures { λ t. ⌜ saysOf t ≡ countSays (now (image .entry)) (valuesOf (fields (drop end (now (text .entry))))) ⌝ }
 {
     line::store(text, end, &mut *numbers);
     counted(line::first(numbers, n), image)

@@ -1,7 +1,7 @@
 -- How many times of a list are in the windows: by the times from one on and to the span's end, by windows in order, and the answers. T is the list of times, i an image. Assumes nothing.
 use mathlib.Core.Path.{_≡_, refl, sym, ap, ap₂, _∙_, subst}
 use mathlib.Core.List.{List, [], _∷_}
-use mathlib.Core.Bool.{Bool, true, false, _&&_, cond, and-false}
+use mathlib.Core.Bool.{Bool, true, false, _&&_, and-false}
 use Prim.Native.Nat.{ℕ, zero, suc, _+_, _%_, _≤_, _<_, suc-le-suc, zero-le}
 use native.Mathlib.Nat.{le-trans, lt-of-not-le}
 use native.Mathlib.Decide.{decLt}
@@ -28,23 +28,23 @@ use Rattle.elias_fano_walk.specs.Searching.{FirstFrom}
 use Rattle.elias_fano_walk.specs.Walking.{WalkOver}
 use Rattle.elias_fano_walk.proofs.Halved.{not-falling}
 use Rattle.weekly_windows.specs.Ordering.{joined}
-use Rattle.weekly_windows.specs.Windows.{week, within, inside, areWindows, counts, countIn, answerOf, countOf}
+use Rattle.weekly_windows.specs.Windows.{week, between, inSome, areWindows, isCounted, countIn, countAnswer, countOf}
 use Rattle.weekly_windows.proofs.Joining.{inside-joined}
 
 -- windows that hold the same seconds count the same
-pub count-same : (ws o : List ℕ) → ((r : ℕ) → inside ws r ≡ inside o r) → (s e : ℕ) (T : List ℕ) → countIn ws s e T ≡ countIn o s e T
+pub count-same : (ws o : List ℕ) → ((r : ℕ) → inSome ws r ≡ inSome o r) → (s e : ℕ) (T : List ℕ) → countIn ws s e T ≡ countIn o s e T
 unfolding countIn
 count-same ws o h s e [] = refl
-count-same ws o h s e (t ∷ T) = ap₂ (λ (b : Bool) (n : ℕ). flag (within s e t && b) + n) (h (t % week)) (count-same ws o h s e T)
+count-same ws o h s e (t ∷ T) = ap₂ (λ (b : Bool) (n : ℕ). flag (between s e t && b) + n) (h (t % week)) (count-same ws o h s e T)
 
 module _ (ws : List ℕ) where
-  pub counts-before : (s e t : ℕ) → t < s → counts ws s e t ≡ false
+  pub counts-before : (s e t : ℕ) → t < s → isCounted ws s e t ≡ false
   counts-before s e t h = simp (lt-leb s t h)
 
-  pub counts-past : (s e t : ℕ) → e ≤ t → counts ws s e t ≡ false
-  counts-past s e t h = ap (λ (b : Bool). leb s t && b && inside ws (t % week)) (le-ltb t e h) ∙ ap (λ (b : Bool). b && inside ws (t % week)) (and-false (leb s t))
+  pub counts-past : (s e t : ℕ) → e ≤ t → isCounted ws s e t ≡ false
+  counts-past s e t h = ap (λ (b : Bool). leb s t && b && inSome ws (t % week)) (le-ltb t e h) ∙ ap (λ (b : Bool). b && inSome ws (t % week)) (and-false (leb s t))
 
-  pub counts-in : (s e t : ℕ) → s ≤ t → t < e → counts ws s e t ≡ inside ws (t % week)
+  pub counts-in : (s e t : ℕ) → s ≤ t → t < e → isCounted ws s e t ≡ inSome ws (t % week)
   counts-in s e t h k = simp (le-leb s t h, lt-ltb t e k)
 
   -- no time is below the span's end
@@ -57,7 +57,7 @@ module _ (ws : List ℕ) where
   count-all : (s e : ℕ) (T : List ℕ) → ((j : ℕ) → j < length T → s ≤ getD T j 0) → countIn ws s e T ≡ countIn ws 0 e T
   unfolding countIn
   count-all s e [] h = refl
-  count-all s e (t ∷ T) h = ap₂ (λ (b : Bool) (n : ℕ). flag (b && ltb t e && inside ws (t % week)) + n) (le-leb s t (h 0 (omega arith)) ∙ sym (le-leb 0 t zero-le)) (count-all s e T (λ j l. h (suc j) (suc-le-suc l)))
+  count-all s e (t ∷ T) h = ap₂ (λ (b : Bool) (n : ℕ). flag (b && ltb t e && inSome ws (t % week)) + n) (le-leb s t (h 0 (omega arith)) ∙ sym (le-leb 0 t zero-le)) (count-all s e T (λ j l. h (suc j) (suc-le-suc l)))
 
   -- the first k times are below the span's beginning, and no others
   pub count-from : (s e k : ℕ) (T : List ℕ) → ((j : ℕ) → j < k → getD T j 0 < s) → ((j : ℕ) → k ≤ j → j < length T → s ≤ getD T j 0) → countIn ws s e T ≡ countIn ws 0 e (drop k T)
@@ -70,7 +70,7 @@ module _ (ws : List ℕ) where
       ∙ count-from s e k T (λ j l. f (suc j) (suc-le-suc l)) (λ j l m. g (suc j) (suc-le-suc l) (suc-le-suc m))
 
   -- one time of the span more
-  pub count-next : (e j : ℕ) (T : List ℕ) → j < length T → getD T j 0 < e → countIn ws 0 e (drop j T) ≡ flag (inside ws (getD T j 0 % week)) + countIn ws 0 e (drop (suc j) T)
+  pub count-next : (e j : ℕ) (T : List ℕ) → j < length T → getD T j 0 < e → countIn ws 0 e (drop j T) ≡ flag (inSome ws (getD T j 0 % week)) + countIn ws 0 e (drop (suc j) T)
   unfolding countIn
   count-next e j T h k = ap (countIn ws 0 e) (drop-cons T j 0 h) ∙ ap (λ (b : Bool). flag b + countIn ws 0 e (drop (suc j) T)) (counts-in 0 e (getD T j 0) zero-le k)
 
@@ -80,7 +80,7 @@ module _ (ws : List ℕ) where
   count-no-span s e [] h = refl
   count-no-span s e (t ∷ T) h = ap₂ (λ (b : Bool) (n : ℕ). flag b + n) (go (decLt t s)) (count-no-span s e T h)
     where
-      go : Dec (t < s) → counts ws s e t ≡ false
+      go : Dec (t < s) → isCounted ws s e t ≡ false
       go (yes l) = counts-before s e t l
       go (no l) = counts-past s e t (omega (arith, lt-of-not-le l))
 
@@ -90,7 +90,7 @@ module _ (ws : List ℕ) where
 
 -- windows in order count what they counted before
 pub count-joined : (ws : List ℕ) (e : ℕ) (T : List ℕ) → countIn (joined [] ws) 0 e T ≡ countIn ws 0 e T
-unfolding inside
+unfolding inSome
 count-joined ws e T = count-same (joined [] ws) ws (λ r. inside-joined [] ws r) 0 e T
 
 -- ---- the loop
@@ -128,31 +128,31 @@ module _ (i : List ℕ) (ok : accepted i ≡ true) (p : Parts) (ep : p ≡ parts
           later : (j : ℕ) → j < length (drop (w .number) (times i)) → getD (times i) (w .number) 0 ≤ getD (times i) (w .number + j) 0
           later j m = not-falling _ (times i) (images.is-fit i ok .rises) (w .number) (w .number + j) (omega arith) (let q = length-drop (w .number) (times i) in omega arith)
 
-      pub counts-more : x < e → (t : ℕ) → t ≡ flag (inside ws (x % week)) → (w′ : Walk) → WalkOver i p w′ → w′ .number ≡ suc (w .number) → CountsOn i p ws e k w′ (count + t)
+      pub counts-more : x < e → (t : ℕ) → t ≡ flag (inSome ws (x % week)) → (w′ : Walk) → WalkOver i p w′ → w′ .number ≡ suc (w .number) → CountsOn i p ws e k w′ (count + t)
       counts-more h t et w′ g n =
           let q = s .same in
           let y = count-next ws e (w .number) (times i) (omega (arith, many)) (subst (λ (z : ℕ). z < e) ex h) in
-          let z : t ≡ flag (inside ws (getD (times i) (w .number) 0 % week)) = et ∙ ap (λ (v : ℕ). flag (inside ws (v % week))) ex in
+          let z : t ≡ flag (inSome ws (getD (times i) (w .number) 0 % week)) = et ∙ ap (λ (v : ℕ). flag (inSome ws (v % week))) ex in
           let d = ap (λ (v : ℕ). countIn ws 0 e (drop v (times i))) n in
           record {
             walking = g;
-            few = let f = s .few in let b = flag-le (inside ws (x % week)) in omega arith;
+            few = let f = s .few in let b = flag-le (inSome ws (x % week)) in omega arith;
             same = omega arith;
           }
 
 -- ---- the answers
 
 module _ (T ws : List ℕ) (s e : ℕ) where
-  pub answer-refused : areWindows ws ≡ false → refused 17 ≡ answerOf T ws s e
-  unfolding answerOf
+  pub answer-refused : areWindows ws ≡ false → refused 17 ≡ countAnswer T ws s e
+  unfolding countAnswer
   answer-refused h = sym (simp h)
 
-  pub answer-is : areWindows ws ≡ true → (n : ℕ) → n ≡ countIn ws s e T → value n ≡ answerOf T ws s e
-  unfolding answerOf
+  pub answer-is : areWindows ws ≡ true → (n : ℕ) → n ≡ countIn ws s e T → value n ≡ countAnswer T ws s e
+  unfolding countAnswer
   answer-is h n q = sym (simp h (ap value (sym q)))
 
 module _ (i ws : List ℕ) (s e : ℕ) where
-  pub count-opened : accepted i ≡ true → (a : Answer) → a ≡ answerOf (times i) ws s e → a ≡ countOf i ws s e
+  pub count-opened : accepted i ≡ true → (a : Answer) → a ≡ countAnswer (times i) ws s e → a ≡ countOf i ws s e
   unfolding countOf
   count-opened h a q = q ∙ sym (simp h)
 

@@ -1,5 +1,5 @@
 -- The cuts: how many are at or below a second, found from some on; that it is in the windows if that number is odd; and where the search begins in each part of the week. Assumes nothing.
-use mathlib.Core.Path.{_≡_, refl, sym, ap, _∙_, subst, subst₂}
+use mathlib.Core.Path.{_≡_, sym, ap, _∙_, subst, subst₂}
 use mathlib.Core.List.{List, [], _∷_}
 use mathlib.Core.Bool.{Bool, true, false, _&&_, _||_, and-false}
 use Prim.Native.Nat.{ℕ, zero, suc, _+_, _*_, _/_, _%_, _≤_, _<_, suc-le-suc, zero-le}
@@ -12,8 +12,8 @@ use lib.ListN.{length, getD, take, set, length-set}
 use lib.Seq.{length-take-le, getD-take, getD-set-same, getD-set-other}
 use Rattle.broadword.specs.Fields.{flag}
 use Rattle.elias_fano_walk.proofs.Halved.{not-falling}
-use Rattle.weekly_windows.specs.Windows.{week, within, inside}
-use Rattle.weekly_windows.specs.Ordering.{Ordered, AllUpto, Upto, Starts}
+use Rattle.weekly_windows.specs.Windows.{week, between, inSome}
+use Rattle.weekly_windows.specs.Ordering.{Ordered, AllUpto, CutsUpto, PartStarts}
 
 -- ---- how many are at or below r
 
@@ -31,7 +31,7 @@ module _ (cuts : List ℕ) (n r : ℕ) (o : Ordered cuts n) (h : r < week) where
       go j m (no e) = f j (omega arith)
 
   -- the cuts do not fall
-  pub cuts-end : (k : ℕ) → k ≤ n → AllUpto cuts r k → r < getD cuts k 0 → Upto cuts n r k
+  pub cuts-end : (k : ℕ) → k ≤ n → AllUpto cuts r k → r < getD cuts k 0 → CutsUpto cuts n r k
   cuts-end k l f g = record { few = l; before = f; after = λ j m i. lt-of-lt-of-le g (climbs j m i) }
     where
       climbs : (j : ℕ) → k ≤ j → j < n → getD cuts k 0 ≤ getD cuts j 0
@@ -42,34 +42,34 @@ module _ (cuts : List ℕ) (n r : ℕ) (o : Ordered cuts n) (h : r < week) where
 -- ---- whether r is in a window
 
 module _ (a b r : ℕ) where
-  before-window : r < a → within a b r ≡ false
+  before-window : r < a → between a b r ≡ false
   before-window h = ap (λ (t : Bool). t && ltb r b) (lt-leb a r h)
 
-  after-window : b ≤ r → within a b r ≡ false
+  after-window : b ≤ r → between a b r ≡ false
   after-window h = ap (λ (t : Bool). leb a r && t) (le-ltb r b h) ∙ and-false (leb a r)
 
-  in-window : a ≤ r → r < b → within a b r ≡ true
+  in-window : a ≤ r → r < b → between a b r ≡ true
   in-window h k = simp (le-leb a r h, lt-ltb r b k)
 
 -- the first k words are at or below r, and no others
 pub odd-inside :
     (ws : List ℕ) (k r : ℕ)
     → length ws % 2 ≡ 0 → k ≤ length ws → ((j : ℕ) → j < k → getD ws j 0 ≤ r) → ((j : ℕ) → k ≤ j → j < length ws → r < getD ws j 0)
-    → k % 2 ≡ flag (inside ws r)
-unfolding inside
+    → k % 2 ≡ flag (inSome ws r)
+unfolding inSome
 odd-inside [] k r e h f g = omega arith
 odd-inside (a ∷ []) k r e h f g = absurd (omega arith)
 odd-inside (a ∷ b ∷ ws) zero r e h f g =
     odd-inside ws zero r (omega arith) zero-le (λ j l. absurd (omega arith)) (λ j l m. g (suc (suc j)) zero-le (suc-le-suc (suc-le-suc m)))
-    ∙ ap (λ (t : Bool). flag (t || inside ws r)) (sym (before-window a b r (g 0 zero-le (omega arith))))
-odd-inside (a ∷ b ∷ ws) (suc zero) r e h f g = ap (λ (t : Bool). flag (t || inside ws r)) (sym (in-window a b r (f 0 (omega arith)) (g 1 (omega arith) (omega arith))))
+    ∙ ap (λ (t : Bool). flag (t || inSome ws r)) (sym (before-window a b r (g 0 zero-le (omega arith))))
+odd-inside (a ∷ b ∷ ws) (suc zero) r e h f g = ap (λ (t : Bool). flag (t || inSome ws r)) (sym (in-window a b r (f 0 (omega arith)) (g 1 (omega arith) (omega arith))))
 odd-inside (a ∷ b ∷ ws) (suc (suc k)) r e h f g =
     (let m : suc (suc k) % 2 ≡ k % 2 = omega arith in m)
     ∙ odd-inside ws k r (omega arith) (omega arith) (λ j l. f (suc (suc j)) (suc-le-suc (suc-le-suc l))) (λ j l m. g (suc (suc j)) (suc-le-suc (suc-le-suc l)) (suc-le-suc (suc-le-suc m)))
-    ∙ ap (λ (t : Bool). flag (t || inside ws r)) (sym (after-window a b r (f 1 (omega arith))))
+    ∙ ap (λ (t : Bool). flag (t || inSome ws r)) (sym (after-window a b r (f 1 (omega arith))))
 
 -- the same of the cuts: so many of them are at or below r
-pub upto-inside : (cuts : List ℕ) (n r k : ℕ) → Ordered cuts n → Upto cuts n r k → k % 2 ≡ flag (inside (take n cuts) r)
+pub upto-inside : (cuts : List ℕ) (n r k : ℕ) → Ordered cuts n → CutsUpto cuts n r k → k % 2 ≡ flag (inSome (take n cuts) r)
 upto-inside cuts n r k o u =
     let q = length-take-le n cuts (let a = o .long in let b = o .few in omega arith) in
     let e = o .even in
@@ -95,7 +95,7 @@ module _ (cuts : List ℕ) (n : ℕ) where
   pub none-started : (first : List ℕ) → length first ≡ 148 → Started cuts n first 0 0
   none-started first l = record { upto = omega arith; long = l; few = zero-le; passed = λ j h. absurd (omega arith); starts = λ p h. absurd (omega arith) }
 
-  pub one-started : (first : List ℕ) (k q : ℕ) → Started cuts n first k q → q < 148 → (m : ℕ) → Upto cuts n (q * 4096) m → Started cuts n (set first q m) m (q + 1)
+  pub one-started : (first : List ℕ) (k q : ℕ) → Started cuts n first k q → q < 148 → (m : ℕ) → CutsUpto cuts n (q * 4096) m → Started cuts n (set first q m) m (q + 1)
   one-started first k q s h m u = record {
     upto = omega arith;
     long = length-set first q m ∙ s .long;
@@ -111,10 +111,10 @@ module _ (cuts : List ℕ) (n : ℕ) where
       go p l (yes e) = subst (StartAt cuts n (set first q m)) (sym e) (subst (λ (x : ℕ). (x ≤ n) × AllUpto cuts (q * 4096) x) (sym at) (u .few, u .before))
       go p l (no e) = subst (λ (x : ℕ). (x ≤ n) × AllUpto cuts (p * 4096) x) (sym (getD-set-other first q p m 0 e)) (s .starts p (omega arith))
 
-  pub all-started : (first : List ℕ) (k q : ℕ) → Started cuts n first k q → 148 ≤ q → Starts cuts n first
+  pub all-started : (first : List ℕ) (k q : ℕ) → Started cuts n first k q → 148 ≤ q → PartStarts cuts n first
   all-started first k q s h p l = s .starts p (omega arith)
 
-  module _ (first : List ℕ) (o : Ordered cuts n) (s : Starts cuts n first) (r : ℕ) (h : r < week) where
+  module _ (first : List ℕ) (o : Ordered cuts n) (s : PartStarts cuts n first) (r : ℕ) (h : r < week) where
     part : r / 4096 < 148
     part = omega arith
 

@@ -1,14 +1,13 @@
 -- The windows are put in order: one joins those before it in one pass, and all of them one after the other. o are the words before the pass. Assumes nothing.
 use mathlib.Core.Path.{_≡_, refl, sym, ap, ap₂, _∙_, subst}
 use mathlib.Core.List.{List, [], _∷_, _++_, append-assoc}
-use mathlib.Core.Bool.{Bool, true, cond}
+use mathlib.Core.Bool.{true}
 use Prim.Native.Nat.{ℕ, suc, _+_, _%_, _≤_, _<_, min, max}
 use native.Mathlib.Nat.{le-refl, lt-of-not-le, add-zero}
 use native.Mathlib.Decide.{decLt}
 use native.Mathlib.Omega.{arith}
 use borrow.Author.Tests.{lt-ltb, le-ltb}
-use lib.Dec.{ltb}
-use lib.ListN.{length, getD, take, drop, set, length-take, length-set, drop-of-length-le}
+use lib.ListN.{length, getD, take, drop, set, length-set, drop-of-length-le}
 use lib.Seq.{length-take-le, getD-take, getD-drop, drop-drop, take-set-le, getD-set-same}
 use Rattle.elias_fano_words.specs.Times.{rising}
 use Rattle.elias_fano_words.proofs.Rising.{rising-none}

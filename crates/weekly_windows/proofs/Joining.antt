@@ -1,8 +1,8 @@
 -- A window joins windows in order: they are in order then, and a second is in them if it was in them or is in the window. Assumes nothing.
 use mathlib.Core.Path.{_≡_, refl, sym, ap, ap₂, _∙_}
 use mathlib.Core.List.{List, [], _∷_}
-use mathlib.Core.Bool.{Bool, true, false, _&&_, _||_, cond, or-assoc, or-comm, or-false}
-use Prim.Native.Nat.{ℕ, suc, _≤_, _<_, min, max}
+use mathlib.Core.Bool.{Bool, true, false, _&&_, _||_, or-assoc, or-comm, or-false}
+use Prim.Native.Nat.{ℕ, _≤_, _<_, min, max}
 use native.Mathlib.Nat.{le-trans, lt-of-not-le}
 use native.Mathlib.Decide.{decLe, decLt}
 use native.Mathlib.Omega.{arith}
@@ -10,7 +10,7 @@ use borrow.Author.Tests.{lt-ltb, le-ltb, le-leb, lt-leb, ltb-false, leb-false}
 use lib.Dec.{leb, ltb}
 use Rattle.elias_fano_words.specs.Times.{rising}
 use Rattle.elias_fano_words.proofs.Rising.{rising-first, rising-cons, rising-none}
-use Rattle.weekly_windows.specs.Windows.{within, inside}
+use Rattle.weekly_windows.specs.Windows.{between, inSome}
 use Rattle.weekly_windows.specs.Ordering.{inserted, joined}
 
 -- ---- two windows
@@ -44,7 +44,7 @@ module _ (x y c d r : ℕ) where
       go (no h) (no k) = simp (le-ltb r y (omega (arith, lt-of-not-le h)), le-ltb r d (omega (arith, lt-of-not-le k)), le-ltb r (max y d) (omega (arith, lt-of-not-le h, lt-of-not-le k)))
 
   -- neither ends before the other begins: they are one
-  within-joined : x ≤ d → c ≤ y → within (min x c) (max y d) r ≡ (within x y r || within c d r)
+  within-joined : x ≤ d → c ≤ y → between (min x c) (max y d) r ≡ (between x y r || between c d r)
   within-joined h k = ap₂ _&&_ from-lesser to-greater ∙ spread (leb x r) (ltb r y) (leb c r) (ltb r d)
       (λ _ f g. omega (arith, ltb-false r y f, leb-false c r g))
       (λ e _ g. omega (arith, leb-false x r e, ltb-false r d g))
@@ -55,20 +55,20 @@ swap : (p q t : Bool) → (p || (q || t)) ≡ (q || (p || t))
 swap p q t = sym (or-assoc p q t) ∙ ap (λ (b : Bool). b || t) (or-comm p q) ∙ or-assoc q p t
 
 -- a second is in the window or in the others
-pub inside-inserted : (x y : ℕ) (ws : List ℕ) (r : ℕ) → inside (inserted x y ws) r ≡ (within x y r || inside ws r)
-unfolding inside inserted
+pub inside-inserted : (x y : ℕ) (ws : List ℕ) (r : ℕ) → inSome (inserted x y ws) r ≡ (between x y r || inSome ws r)
+unfolding inSome inserted
 inside-inserted x y [] r = refl
 inside-inserted x y (c ∷ []) r = refl
 inside-inserted x y (c ∷ d ∷ ws) r = go (inside-inserted x y ws r) (inside-inserted c d ws r) (inside-inserted (min x c) (max y d) ws r) (decLt d x) (decLt y c)
   where
     go :
-        inside (inserted x y ws) r ≡ (within x y r || inside ws r) → inside (inserted c d ws) r ≡ (within c d r || inside ws r) → inside (inserted (min x c) (max y d) ws) r ≡ (within (min x c) (max y d) r || inside ws r)
-        → Dec (d < x) → Dec (y < c) → inside (inserted x y (c ∷ d ∷ ws)) r ≡ (within x y r || (within c d r || inside ws r))
-    go f g k (yes h) t = simp (lt-ltb d x h) (ap (λ (b : Bool). within c d r || b) f ∙ swap (within c d r) (within x y r) (inside ws r))
-    go f g k (no h) (yes t) = simp (le-ltb d x (omega (arith, lt-of-not-le h)), lt-ltb y c t) (ap (λ (b : Bool). within x y r || b) g)
+        inSome (inserted x y ws) r ≡ (between x y r || inSome ws r) → inSome (inserted c d ws) r ≡ (between c d r || inSome ws r) → inSome (inserted (min x c) (max y d) ws) r ≡ (between (min x c) (max y d) r || inSome ws r)
+        → Dec (d < x) → Dec (y < c) → inSome (inserted x y (c ∷ d ∷ ws)) r ≡ (between x y r || (between c d r || inSome ws r))
+    go f g k (yes h) t = simp (lt-ltb d x h) (ap (λ (b : Bool). between c d r || b) f ∙ swap (between c d r) (between x y r) (inSome ws r))
+    go f g k (no h) (yes t) = simp (le-ltb d x (omega (arith, lt-of-not-le h)), lt-ltb y c t) (ap (λ (b : Bool). between x y r || b) g)
     go f g k (no h) (no t) =
         simp (le-ltb d x (omega (arith, lt-of-not-le h)), le-ltb y c (omega (arith, lt-of-not-le t)))
-        (k ∙ ap (λ (b : Bool). b || inside ws r) (within-joined x y c d r (omega (arith, lt-of-not-le h)) (omega (arith, lt-of-not-le t))) ∙ or-assoc (within x y r) (within c d r) (inside ws r))
+        (k ∙ ap (λ (b : Bool). b || inSome ws r) (within-joined x y c d r (omega (arith, lt-of-not-le h)) (omega (arith, lt-of-not-le t))) ∙ or-assoc (between x y r) (between c d r) (inSome ws r))
 
 -- a list in order may begin at a lesser number
 rising-from : (u x y : ℕ) (ws : List ℕ) → y ≤ x → rising u x ws ≡ true → rising u y ws ≡ true
@@ -98,11 +98,11 @@ rising-inserted u lo x y (c ∷ d ∷ ws) e h k l =
 
 -- ---- all windows
 
-pub inside-joined : (o ws : List ℕ) (r : ℕ) → inside (joined o ws) r ≡ (inside o r || inside ws r)
-unfolding inside joined
-inside-joined o [] r = sym (or-false (inside o r))
-inside-joined o (a ∷ []) r = sym (or-false (inside o r))
+pub inside-joined : (o ws : List ℕ) (r : ℕ) → inSome (joined o ws) r ≡ (inSome o r || inSome ws r)
+unfolding inSome joined
+inside-joined o [] r = sym (or-false (inSome o r))
+inside-joined o (a ∷ []) r = sym (or-false (inSome o r))
 inside-joined o (a ∷ b ∷ ws) r =
     inside-joined (inserted a b o) ws r
-    ∙ ap (λ (t : Bool). t || inside ws r) (inside-inserted a b o r ∙ or-comm (within a b r) (inside o r))
-    ∙ or-assoc (inside o r) (within a b r) (inside ws r)
+    ∙ ap (λ (t : Bool). t || inSome ws r) (inside-inserted a b o r ∙ or-comm (between a b r) (inSome o r))
+    ∙ or-assoc (inSome o r) (between a b r) (inSome ws r)

@@ -7,7 +7,7 @@ use native.Mathlib.Numerals.{add-one}
 use native.Mathlib.Omega.{arith}
 use borrow.Author.Tests.{ltb-true, leb-true, le-leb, lt-leb}
 use lib.Dec.{leb, ltb}
-use lib.ListN.{length, getD, take, drop, set, length-drop, drop-of-length-le}
+use lib.ListN.{length, getD, take, drop, set, drop-of-length-le}
 use lib.Seq.{drop-cons, sets-eq, take-append-add, length-take-le, drop-set-lt}
 use Rattle.broadword.proofs.Truth.{and-true, true-false}
 use Rattle.weekly_windows.specs.Windows.{week, inForm, areWindows}

@@ -41,11 +41,11 @@ abbrev pub AllUpto : List ℕ → ℕ → ℕ → Type 0
 AllUpto cuts r k = (j : ℕ) → j < k → getD cuts j 0 ≤ r
 
 -- and no later one is
-pub record Upto (cuts : List ℕ) (n r k : ℕ) : Type 0 where
+pub record CutsUpto (cuts : List ℕ) (n r k : ℕ) : Type 0 where
   pub few : k ≤ n
   pub before : AllUpto cuts r k
   pub after : (j : ℕ) → k ≤ j → j < n → r < getD cuts j 0
 
 -- for each part of the week of 4,096 seconds, as many as are at or below its first second, at most
-abbrev pub Starts : List ℕ → ℕ → List ℕ → Type 0
-Starts cuts n first = (q : ℕ) → q < 148 → (getD first q 0 ≤ n) × AllUpto cuts (q * 4096) (getD first q 0)
+abbrev pub PartStarts : List ℕ → ℕ → List ℕ → Type 0
+PartStarts cuts n first = (q : ℕ) → q < 148 → (getD first q 0 ≤ n) × AllUpto cuts (q * 4096) (getD first q 0)

@@ -15,7 +15,7 @@ use Rattle.elias_fano_words.specs.Image.{highFrom, lowNumber, highWords, lowWor
 use Rattle.elias_fano_words.specs.Sizes.{lowLen, highLen}
 use Rattle.elias_fano_words.specs.Times.{rising, timeIn, timesIn}
 use Rattle.elias_fano.specs.Accept.{fit, times, accepted}
-use Rattle.weekly_windows.specs.Windows.{inside, inForm, areWindows, countIn, answerOf, countOf}
+use Rattle.weekly_windows.specs.Windows.{inSome, inForm, areWindows, countIn, countAnswer, countOf}
 
 -- what a call answers by its definition, and what the document says
 pub record Row : Type 0 where
@@ -49,29 +49,29 @@ rows =
     ∷ row (countOf (20 ∷ four true) (0 ∷ []) 0 20) (refused 7)
     ∷ row (countOf [] [] 0 20) (refused 7)
     -- 06:00 to 08:00 on Mondays, in every week
-    ∷ row (answerOf mornings (21600 ∷ 28800 ∷ []) 0 2000000) (value 5)
-    ∷ row (answerOf mornings (21600 ∷ 28800 ∷ []) 21600 28799) (value 1)
-    ∷ row (answerOf mornings (21600 ∷ 28800 ∷ []) 626400 626401) (value 2)
+    ∷ row (countAnswer mornings (21600 ∷ 28800 ∷ []) 0 2000000) (value 5)
+    ∷ row (countAnswer mornings (21600 ∷ 28800 ∷ []) 21600 28799) (value 1)
+    ∷ row (countAnswer mornings (21600 ∷ 28800 ∷ []) 626400 626401) (value 2)
     -- a time in two windows counts once, in any order of the windows
-    ∷ row (answerOf mornings (25000 ∷ 30000 ∷ 21600 ∷ 28800 ∷ []) 0 2000000) (value 6)
-    ∷ row (answerOf mornings (21600 ∷ 28800 ∷ 21600 ∷ 28800 ∷ []) 0 2000000) (value 5)
+    ∷ row (countAnswer mornings (25000 ∷ 30000 ∷ 21600 ∷ 28800 ∷ []) 0 2000000) (value 6)
+    ∷ row (countAnswer mornings (21600 ∷ 28800 ∷ 21600 ∷ 28800 ∷ []) 0 2000000) (value 5)
     -- the whole week, no windows, an empty span, a reversed one
-    ∷ row (answerOf mornings (0 ∷ 604800 ∷ []) 0 2000000) (value 6)
-    ∷ row (answerOf mornings [] 0 2000000) (value 0)
-    ∷ row (answerOf mornings (0 ∷ 604800 ∷ []) 626400 626400) (value 0)
-    ∷ row (answerOf mornings (0 ∷ 604800 ∷ []) 2000000 0) (value 0)
+    ∷ row (countAnswer mornings (0 ∷ 604800 ∷ []) 0 2000000) (value 6)
+    ∷ row (countAnswer mornings [] 0 2000000) (value 0)
+    ∷ row (countAnswer mornings (0 ∷ 604800 ∷ []) 626400 626400) (value 0)
+    ∷ row (countAnswer mornings (0 ∷ 604800 ∷ []) 2000000 0) (value 0)
     -- 17: an odd number of words, a not below b, b past the week's end; also for a reversed span
-    ∷ row (answerOf mornings (0 ∷ 1 ∷ 2 ∷ []) 0 2000000) (refused 17)
-    ∷ row (answerOf mornings (0 ∷ 9 ∷ 5 ∷ 5 ∷ []) 0 2000000) (refused 17)
-    ∷ row (answerOf mornings (0 ∷ 604801 ∷ []) 2000000 0) (refused 17)
+    ∷ row (countAnswer mornings (0 ∷ 1 ∷ 2 ∷ []) 0 2000000) (refused 17)
+    ∷ row (countAnswer mornings (0 ∷ 9 ∷ 5 ∷ 5 ∷ []) 0 2000000) (refused 17)
+    ∷ row (countAnswer mornings (0 ∷ 604801 ∷ []) 2000000 0) (refused 17)
     -- 32 windows are taken, 33 are not
-    ∷ row (answerOf (0 ∷ 1 ∷ []) (firsts 32) 0 2) (value 1)
-    ∷ row (answerOf (0 ∷ 1 ∷ []) (firsts 33) 0 2) (refused 17)
+    ∷ row (countAnswer (0 ∷ 1 ∷ []) (firsts 32) 0 2) (value 1)
+    ∷ row (countAnswer (0 ∷ 1 ∷ []) (firsts 33) 0 2) (refused 17)
     -- 2^64 - 2 is the second 25,214 of its week
-    ∷ row (answerOf ((2 ^ 64 - 2) ∷ []) (25214 ∷ 25215 ∷ []) 0 (2 ^ 64 - 1)) (value 1)
-    ∷ row (answerOf ((2 ^ 64 - 2) ∷ []) (25214 ∷ 25215 ∷ []) 0 (2 ^ 64 - 2)) (value 0)
+    ∷ row (countAnswer ((2 ^ 64 - 2) ∷ []) (25214 ∷ 25215 ∷ []) 0 (2 ^ 64 - 1)) (value 1)
+    ∷ row (countAnswer ((2 ^ 64 - 2) ∷ []) (25214 ∷ 25215 ∷ []) 0 (2 ^ 64 - 2)) (value 0)
     ∷ []
 
 pub rows-right : map (λ (r : Row). r .answer) rows ≡ map (λ (r : Row). r .says) rows
-unfolding rows four mornings firsts bit count word last select bitAt bitOver numberWords table pos blocks size wide spill before entry lanes lane laneWord laneWords overflow indexWords places same highFrom lowNumber highWords lowWords image lowLen highLen rising timeIn timesIn fit times accepted inside inForm areWindows countIn answerOf countOf
+unfolding rows four mornings firsts bit count word last select bitAt bitOver numberWords table pos blocks size wide spill before entry lanes lane laneWord laneWords overflow indexWords places same highFrom lowNumber highWords lowWords image lowLen highLen rising timeIn timesIn fit times accepted inSome inForm areWindows countIn countAnswer countOf
 rows-right = refl

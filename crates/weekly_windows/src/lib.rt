@@ -9,8 +9,8 @@ ghost use lib.ListN.{take as takeList, drop};
 ghost use Rattle.elias_fano.specs.Accept.{times, ofNumber};
 ghost use Rattle.elias_fano_walk.specs.Searching.{Searchable};
 ghost use Rattle.elias_fano_walk.specs.Walking.{Walkable, WalkOver};
-ghost use Rattle.weekly_windows.specs.Ordering.{Ordered, Starts};
-ghost use Rattle.weekly_windows.specs.Windows.{areWindows, countIn, answerOf, countOf};
+ghost use Rattle.weekly_windows.specs.Ordering.{Ordered, PartStarts};
+ghost use Rattle.weekly_windows.specs.Windows.{areWindows, countIn, countAnswer, countOf};
 
 mod order;
 
@@ -40,7 +40,7 @@ fn count_on(
     first: &[usize; 148],
     places: &[u8; 64],
 ) -> usize
-    requires { ⌜ (Walkable (now image) p (now places) × WalkOver (now image) p from × Ordered (now cuts) n × Starts (now cuts) n (now first)) ⌝ }
+    requires { ⌜ (Walkable (now image) p (now places) × WalkOver (now image) p from × Ordered (now cuts) n × PartStarts (now cuts) n (now first)) ⌝ }
     ensures { λ r. ⌜ r ≡ countIn (takeList n (now (cuts .entry))) 0 e (drop (from .number) (times (now (image .entry)))) ⌝ }
 {
     let end = p.num_pushed as usize;
@@ -89,7 +89,7 @@ pub fn count_opened(
     places: &[u8; 64],
 ) -> Number
     requires { ⌜ Searchable (now image) p (now table) (now places) ⌝ }
-    ensures { λ r. ⌜ ofNumber r ≡ answerOf (times (now (image .entry))) (now (windows .entry)) s e ⌝ }
+    ensures { λ r. ⌜ ofNumber r ≡ countAnswer (times (now (image .entry))) (now (windows .entry)) s e ⌝ }
 {
     if !are_windows(windows) {
         return Number::Refused(Refusal::InvalidWindows);

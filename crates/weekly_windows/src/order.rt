@@ -8,12 +8,12 @@
 ghost use mathlib.Core.Bool.{true, _&&_};
 ghost use mathlib.Core.Path.{_≡_};
 ghost use mathlib.Core.List.{[]};
-ghost use Prim.Native.Nat.{_+_, _*_, _%_, _≤_, _<_, min, max};
+ghost use Prim.Native.Nat.{_+_, _%_, _≤_, _<_, min, max};
 ghost use lib.Dec.{leb, ltb};
-ghost use lib.ListN.{length, getD, take};
+ghost use lib.ListN.{length, take};
 ghost use Rattle.broadword.specs.Fields.{flag};
-ghost use Rattle.weekly_windows.specs.Ordering.{metOf, inserted, joined, Ordered, AllUpto, Upto, Starts};
-ghost use Rattle.weekly_windows.specs.Windows.{inForm, areWindows, inside};
+ghost use Rattle.weekly_windows.specs.Ordering.{metOf, inserted, joined, Ordered, AllUpto, CutsUpto, PartStarts};
+ghost use Rattle.weekly_windows.specs.Windows.{inForm, areWindows, inSome};
 
 // The seconds of a week.
 const WEEK: u64 = 604800;
@@ -154,9 +154,9 @@ pub fn order(windows: &[u64], cuts: &mut [u64; 65]) -> usize
 }
 
 // How many cuts are at or below the second r of the week; those before `from` are. The number of cuts, n, is for the proof alone: the end of the week ends the search.
-fn upto(cuts: &[u64; 65], n: usize, from: usize, r: u64) -> usize
+fn cuts_upto(cuts: &[u64; 65], n: usize, from: usize, r: u64) -> usize
     requires { ⌜ (Ordered (now cuts) n × (r < 604800) × (from ≤ n) × AllUpto (now cuts) r from) ⌝ }
-    ensures { λ k. ⌜ Upto (now (cuts .entry)) n r k ⌝ }
+    ensures { λ k. ⌜ CutsUpto (now (cuts .entry)) n r k ⌝ }
 {
     let mut k = from;
     while cuts[k] <= r {
@@ -168,12 +168,12 @@ fn upto(cuts: &[u64; 65], n: usize, from: usize, r: u64) -> usize
 // For each part of the week, how many cuts are at or below its first second.
 pub fn part_starts(cuts: &[u64; 65], n: usize, first: &mut [usize; 148])
     requires { ⌜ (Ordered (now cuts) n × (length (now first) ≡ 148)) ⌝ }
-    ensures { λ _. ⌜ Starts (now (cuts .entry)) n (now (first .exit)) ⌝ }
+    ensures { λ _. ⌜ PartStarts (now (cuts .entry)) n (now (first .exit)) ⌝ }
 {
     let mut k: usize = 0;
     let mut q: usize = 0;
     while q < PARTS {
-        k = upto(cuts, n, k, q as u64 * PART);
+        k = cuts_upto(cuts, n, k, q as u64 * PART);
         first[q] = k;
         q += 1;
     }
@@ -188,12 +188,12 @@ fn passed(cut: u64, r: u64) -> usize
 
 // 1 if the time is in a window, else 0. The first cut after the part's start is passed without a branch, which would be guessed wrong half the time.
 pub fn is_inside(cuts: &[u64; 65], n: usize, first: &[usize; 148], t: u64) -> usize
-    requires { ⌜ (Ordered (now cuts) n × Starts (now cuts) n (now first)) ⌝ }
-    ensures { λ k. ⌜ k ≡ flag (inside (take n (now (cuts .entry))) (t % 604800)) ⌝ }
+    requires { ⌜ (Ordered (now cuts) n × PartStarts (now cuts) n (now first)) ⌝ }
+    ensures { λ k. ⌜ k ≡ flag (inSome (take n (now (cuts .entry))) (t % 604800)) ⌝ }
 {
     let r = t % WEEK;
     let q = (r / PART) as usize;
     let k = first[q];
     let from = k + passed(cuts[k], r);
-    upto(cuts, n, from, r) % 2
+    cuts_upto(cuts, n, from, r) % 2
 }

@@ -6,7 +6,7 @@ use Prim.Native.Nat.{_-_, _%_}
 use native.Mathlib.Omega.{arith}
 use lib.ListN.{take}
 use Rattle.broadword.proofs.Truth.{flag-le}
-use Rattle.weekly_windows.specs.Windows.{inside}
+use Rattle.weekly_windows.specs.Windows.{inSome}
 use Rattle.weekly_windows.proofs.Counting as counting
 use Rattle.weekly_windows.proofs.count_on.Statement.{statement}
 use Rattle.weekly_windows.proofs.count_on.Tie as tie
@@ -37,7 +37,7 @@ add-count c =
     let s = c .before .before .before .before .before .before .before in
     let l = c .before .before .before .before .before .loop in
     let m = counting.few-times (s .args .image .now) (s .pre .0 .ok) (s .args .p) (s .pre .0 .parts) [] 0 in
-    omega (arith, c .is-inside .ensures, flag-le (inside (take (s .args .n) (s .args .cuts .now)) (c .before .before .take .result .value % 604800)), l .inv .1 .few, c .before .before .before .if1 .taken)
+    omega (arith, c .is-inside .ensures, flag-le (inSome (take (s .args .n) (s .args .cuts .now)) (c .before .before .take .result .value % 604800)), l .inv .1 .few, c .before .before .before .if1 .taken)
 
 loop-less : tie.Need-loop-less Inv-loop μ-loop
 loop-less c = omega (arith, c .before .before .before .take .ensures .1, c .before .before .before .before .if1 .taken)

@@ -5,7 +5,7 @@ use native.Mathlib.Omega.{arith}
 use lib.ListN.{length, take, drop}
 use Rattle.console_text.specs.Line.{fields}
 use Rattle.console_text.proofs.Reading.{length-values, stored-values}
-use Rattle.console_questions.specs.Questions.{inWindows}
+use Rattle.console_questions.specs.Questions.{countSays}
 use Rattle.console_questions.proofs.windows.stored.Statement.{statement}
 use Rattle.console_questions.proofs.windows.stored.Tie as tie
 
@@ -32,7 +32,7 @@ returns c =
     let a = s .args in
     let fs = fields (drop (a .end) (a .text .now)) in
     let e = c .before .first .ensures ∙ ap (take (a .n)) (c .before .before .before .before .before .store .ensures) ∙ stored-values (a .numbers .now) fs (a .n) (s .pre .0) (s .pre .2) in
-    c .counted .ensures ∙ ap (inWindows (a .image .now)) e
+    c .counted .ensures ∙ ap (countSays (a .image .now)) e
 
 pub stored-spec : {M : Type 1} → statement M
 stored-spec =

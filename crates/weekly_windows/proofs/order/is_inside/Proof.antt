@@ -27,14 +27,14 @@ add-from c =
     let s = c .before .before .before in
     omega (arith, s .pre .0 .few, cutting.start-passed _ _ (s .args .first .now) (s .pre .0) (s .pre .1) (s .args .t % 604800) (omega arith) _ _ refl (c .passed .ensures) .0)
 
-upto-requires : tie.Need-upto-requires
-upto-requires c κs =
+cuts-upto-requires : tie.Need-cuts-upto-requires
+cuts-upto-requires c κs =
     let s = c .before .before .before in
     let p = cutting.start-passed _ _ (s .args .first .now) (s .pre .0) (s .pre .1) (s .args .t % 604800) (omega arith) _ _ refl (c .passed .ensures) in
     (s .pre .0, omega arith, p .0, p .1)
 
 returns : tie.Need-returns
-returns c = let s = c .before .before .before .before in cutting.upto-inside _ _ _ _ (s .pre .0) (c .upto .ensures)
+returns c = let s = c .before .before .before .before in cutting.upto-inside _ _ _ _ (s .pre .0) (c .cuts-upto .ensures)
 
 pub is-inside-spec : {M : Type 1} → statement M
 is-inside-spec =
@@ -46,5 +46,5 @@ is-inside-spec =
     element-copy-out-passed
     passed-requires
     add-from
-    upto-requires
+    cuts-upto-requires
     returns)

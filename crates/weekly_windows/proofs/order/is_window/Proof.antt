@@ -1,8 +1,6 @@
 -- `weekly_windows::order::is_window` meets its contract. Assumes nothing.
-use mathlib.Core.Path.{sym, ap}
-use mathlib.Core.Bool.{Bool, _&&_}
+use mathlib.Core.Path.{sym}
 use borrow.Author.Tests.{lt-ltb, le-ltb}
-use lib.Dec.{leb}
 use Rattle.weekly_windows.proofs.order.is_window.Statement.{statement}
 use Rattle.weekly_windows.proofs.order.is_window.Tie as tie
 

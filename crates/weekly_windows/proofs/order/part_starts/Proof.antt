@@ -15,11 +15,11 @@ abbrev μ-loop : tie.MeasureT-loop
 loop-holds : tie.Need-loop-holds Inv-loop μ-loop
 loop-holds c = cutting.none-started _ _ _ (c .pre .1)
 
-mul-upto : tie.Need-mul-upto Inv-loop μ-loop
-mul-upto c = omega arith
+mul-cuts-upto : tie.Need-mul-cuts-upto Inv-loop μ-loop
+mul-cuts-upto c = omega arith
 
-upto-requires : tie.Need-upto-requires Inv-loop μ-loop
-upto-requires c κs = let s = c .before .before in let l = c .before .loop .inv in (s .pre .0, omega (arith, c .loop-test .taken), l .few, l .passed)
+cuts-upto-requires : tie.Need-cuts-upto-requires Inv-loop μ-loop
+cuts-upto-requires c κs = let s = c .before .before in let l = c .before .loop .inv in (s .pre .0, omega (arith, c .loop-test .taken), l .few, l .passed)
 
 mul-first : tie.Need-mul-first Inv-loop μ-loop
 mul-first c = omega arith
@@ -34,7 +34,7 @@ loop-less : tie.Need-loop-less Inv-loop μ-loop
 loop-less c = omega (arith, c .before .loop-test .taken)
 
 loop-again : tie.Need-loop-again Inv-loop μ-loop
-loop-again c = let l = c .before .before .loop in cutting.one-started _ _ _ _ _ (l .inv) (c .before .loop-test .taken) _ (c .upto .ensures)
+loop-again c = let l = c .before .before .loop in cutting.one-started _ _ _ _ _ (l .inv) (c .before .loop-test .taken) _ (c .cuts-upto .ensures)
 
 returns : tie.Need-returns Inv-loop μ-loop
 returns c = let l = c .before .loop in cutting.all-started _ _ _ _ _ (l .inv) (c .loop-test .left)
@@ -46,8 +46,8 @@ part-starts-spec =
     Inv-loop
     μ-loop
     loop-holds
-    mul-upto
-    upto-requires
+    mul-cuts-upto
+    cuts-upto-requires
     mul-first
     element-write-first
     add-q

@@ -1,11 +1,11 @@
--- `weekly_windows::order::upto` meets its contract. The invariant: the cuts before `k` are at or below `r`. The measure: how many are left.
+-- `weekly_windows::order::cuts_upto` meets its contract. The invariant: the cuts before `k` are at or below `r`. The measure: how many are left.
 -- Assumes nothing.
 use Prim.Native.Nat.{_-_, _≤_}
 use native.Mathlib.Omega.{arith}
 use Rattle.weekly_windows.specs.Ordering.{AllUpto}
 use Rattle.weekly_windows.proofs.Cutting as cutting
-use Rattle.weekly_windows.proofs.order.upto.Statement.{statement}
-use Rattle.weekly_windows.proofs.order.upto.Tie as tie
+use Rattle.weekly_windows.proofs.order.cuts_upto.Statement.{statement}
+use Rattle.weekly_windows.proofs.order.cuts_upto.Tie as tie
 
 abbrev Inv-loop : tie.InvT-loop
 Inv-loop cuts n from r k₀ k = (k ≤ n) × AllUpto cuts r k
@@ -38,5 +38,5 @@ loop-again c =
 returns : tie.Need-returns Inv-loop μ-loop
 returns c = let s = c .before .before .before in let l = c .before .before .loop in cutting.cuts-end (s .args .cuts .now) (s .args .n) (s .args .r) (s .pre .0) (s .pre .1) (l .k) (l .inv .0) (l .inv .1) (omega (arith, c .if1 .left))
 
-pub upto-spec : {M : Type 1} → statement M
-upto-spec = tie.close (tie.spec Inv-loop μ-loop loop-holds mul-if1 element-copy-out-if1 add-k loop-less loop-again returns)
+pub cuts-upto-spec : {M : Type 1} → statement M
+cuts-upto-spec = tie.close (tie.spec Inv-loop μ-loop loop-holds mul-if1 element-copy-out-if1 add-k loop-less loop-again returns)
