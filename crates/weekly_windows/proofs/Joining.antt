@@ -44,8 +44,8 @@ module _ (x y c d r : ℕ) where
       go (no h) (no k) = simp (le-ltb r y (omega (arith, lt-of-not-le h)), le-ltb r d (omega (arith, lt-of-not-le k)), le-ltb r (max y d) (omega (arith, lt-of-not-le h, lt-of-not-le k)))
 
   -- neither ends before the other begins: they are one
-  within-joined : x ≤ d → c ≤ y → between (min x c) (max y d) r ≡ (between x y r || between c d r)
-  within-joined h k = ap₂ _&&_ from-lesser to-greater ∙ spread (leb x r) (ltb r y) (leb c r) (ltb r d)
+  between-joined : x ≤ d → c ≤ y → between (min x c) (max y d) r ≡ (between x y r || between c d r)
+  between-joined h k = ap₂ _&&_ from-lesser to-greater ∙ spread (leb x r) (ltb r y) (leb c r) (ltb r d)
       (λ _ f g. omega (arith, ltb-false r y f, leb-false c r g))
       (λ e _ g. omega (arith, leb-false x r e, ltb-false r d g))
 
@@ -68,7 +68,7 @@ inside-inserted x y (c ∷ d ∷ ws) r = go (inside-inserted x y ws r) (inside-i
     go f g k (no h) (yes t) = simp (le-ltb d x (omega (arith, lt-of-not-le h)), lt-ltb y c t) (ap (λ (b : Bool). between x y r || b) g)
     go f g k (no h) (no t) =
         simp (le-ltb d x (omega (arith, lt-of-not-le h)), le-ltb y c (omega (arith, lt-of-not-le t)))
-        (k ∙ ap (λ (b : Bool). b || inSome ws r) (within-joined x y c d r (omega (arith, lt-of-not-le h)) (omega (arith, lt-of-not-le t))) ∙ or-assoc (between x y r) (between c d r) (inSome ws r))
+        (k ∙ ap (λ (b : Bool). b || inSome ws r) (between-joined x y c d r (omega (arith, lt-of-not-le h)) (omega (arith, lt-of-not-le t))) ∙ or-assoc (between x y r) (between c d r) (inSome ws r))
 
 -- a list in order may begin at a lesser number
 rising-from : (u x y : ℕ) (ws : List ℕ) → y ≤ x → rising u x ws ≡ true → rising u y ws ≡ true
