@@ -32,7 +32,7 @@ use Rattle.weekly_windows.specs.Windows.{week, between, inSome, areWindo
 use Rattle.weekly_windows.proofs.Joining.{inside-joined}
 
 -- windows that hold the same seconds count the same
-pub count-same : (ws o : List ℕ) → ((r : ℕ) → inSome ws r ≡ inSome o r) → (s e : ℕ) (T : List ℕ) → countIn ws s e T ≡ countIn o s e T
+count-same : (ws o : List ℕ) → ((r : ℕ) → inSome ws r ≡ inSome o r) → (s e : ℕ) (T : List ℕ) → countIn ws s e T ≡ countIn o s e T
 unfolding countIn
 count-same ws o h s e [] = refl
 count-same ws o h s e (t ∷ T) = ap₂ (λ (b : Bool) (n : ℕ). flag (between s e t && b) + n) (h (t % week)) (count-same ws o h s e T)
@@ -48,7 +48,7 @@ module _ (ws : List ℕ) where
   counts-in s e t h k = simp (le-leb s t h, lt-ltb t e k)
 
   -- no time is below the span's end
-  pub count-none : (s e : ℕ) (T : List ℕ) → ((j : ℕ) → j < length T → e ≤ getD T j 0) → countIn ws s e T ≡ 0
+  count-none : (s e : ℕ) (T : List ℕ) → ((j : ℕ) → j < length T → e ≤ getD T j 0) → countIn ws s e T ≡ 0
   unfolding countIn
   count-none s e [] h = refl
   count-none s e (t ∷ T) h = ap₂ (λ (b : Bool) (n : ℕ). flag b + n) (counts-past s e t (h 0 (omega arith))) (count-none s e T (λ j l. h (suc j) (suc-le-suc l)))
@@ -60,7 +60,7 @@ module _ (ws : List ℕ) where
   count-all s e (t ∷ T) h = ap₂ (λ (b : Bool) (n : ℕ). flag (b && ltb t e && inSome ws (t % week)) + n) (le-leb s t (h 0 (omega arith)) ∙ sym (le-leb 0 t zero-le)) (count-all s e T (λ j l. h (suc j) (suc-le-suc l)))
 
   -- the first k times are below the span's beginning, and no others
-  pub count-from : (s e k : ℕ) (T : List ℕ) → ((j : ℕ) → j < k → getD T j 0 < s) → ((j : ℕ) → k ≤ j → j < length T → s ≤ getD T j 0) → countIn ws s e T ≡ countIn ws 0 e (drop k T)
+  count-from : (s e k : ℕ) (T : List ℕ) → ((j : ℕ) → j < k → getD T j 0 < s) → ((j : ℕ) → k ≤ j → j < length T → s ≤ getD T j 0) → countIn ws s e T ≡ countIn ws 0 e (drop k T)
   unfolding countIn
   count-from s e k [] f g = ap (countIn ws 0 e) (sym (drop-nil k))
   count-from s e zero (t ∷ T) f g = count-all s e (t ∷ T) (λ j l. g j zero-le l)
@@ -70,7 +70,7 @@ module _ (ws : List ℕ) where
       ∙ count-from s e k T (λ j l. f (suc j) (suc-le-suc l)) (λ j l m. g (suc j) (suc-le-suc l) (suc-le-suc m))
 
   -- one time of the span more
-  pub count-next : (e j : ℕ) (T : List ℕ) → j < length T → getD T j 0 < e → countIn ws 0 e (drop j T) ≡ flag (inSome ws (getD T j 0 % week)) + countIn ws 0 e (drop (suc j) T)
+  count-next : (e j : ℕ) (T : List ℕ) → j < length T → getD T j 0 < e → countIn ws 0 e (drop j T) ≡ flag (inSome ws (getD T j 0 % week)) + countIn ws 0 e (drop (suc j) T)
   unfolding countIn
   count-next e j T h k = ap (countIn ws 0 e) (drop-cons T j 0 h) ∙ ap (λ (b : Bool). flag b + countIn ws 0 e (drop (suc j) T)) (counts-in 0 e (getD T j 0) zero-le k)
 
@@ -101,44 +101,45 @@ pub record CountsOn (i : List ℕ) (p : Parts) (ws : List ℕ) (e k : ℕ) (w : 
   pub few : count ≤ w .number
   pub same : count + countIn ws 0 e (drop (w .number) (times i)) ≡ countIn ws 0 e (drop k (times i))
 
-module _ (i : List ℕ) (ok : accepted i ≡ true) (p : Parts) (ep : p ≡ partsOf i) (ws : List ℕ) (e : ℕ) where
+module _ (i : List ℕ) (ok : accepted i ≡ true) (p : Parts) (ep : p ≡ partsOf i) where
   many : p .«num_pushed» ≡ length (times i)
   many = selecting.pushed-is i ok p ep
 
   pub few-times : p .«num_pushed» ≤ 16777216
   few-times = let f = images.is-fit i ok in omega (arith, many, f .few, f .most)
 
-  pub counts-begin : (w : Walk) → WalkOver i p w → CountsOn i p ws e (w .number) w 0
-  counts-begin w h = record { walking = h; few = zero-le; same = omega arith }
+  module _ (ws : List ℕ) (e : ℕ) where
+    pub counts-begin : (w : Walk) → WalkOver i p w → CountsOn i p ws e (w .number) w 0
+    counts-begin w h = record { walking = h; few = zero-le; same = omega arith }
 
-  module _ (k : ℕ) (w : Walk) (count : ℕ) (s : CountsOn i p ws e k w count) where
-    -- no time is left
-    none-left : countIn ws 0 e (drop (w .number) (times i)) ≡ 0 → count ≡ countIn ws 0 e (drop k (times i))
-    none-left h = let q = s .same in omega arith
+    module _ (k : ℕ) (w : Walk) (count : ℕ) (s : CountsOn i p ws e k w count) where
+      -- no time is left
+      none-left : countIn ws 0 e (drop (w .number) (times i)) ≡ 0 → count ≡ countIn ws 0 e (drop k (times i))
+      none-left h = let q = s .same in omega arith
 
-    pub counts-end : p .«num_pushed» ≤ w .number → count ≡ countIn ws 0 e (drop k (times i))
-    unfolding countIn
-    counts-end h = none-left (ap (countIn ws 0 e) (drop-of-length-le (times i) {i = w .number} (omega (arith, many))))
+      pub counts-end : p .«num_pushed» ≤ w .number → count ≡ countIn ws 0 e (drop k (times i))
+      unfolding countIn
+      counts-end h = none-left (ap (countIn ws 0 e) (drop-of-length-le (times i) {i = w .number} (omega (arith, many))))
 
-    module _ (l : w .number < p .«num_pushed») (x : ℕ) (ex : x ≡ getD (times i) (w .number) 0) where
-      -- the next time is not below the span's end, and no later one is
-      pub counts-stop : e ≤ x → count ≡ countIn ws 0 e (drop k (times i))
-      counts-stop h = none-left (count-none ws 0 e (drop (w .number) (times i)) (λ j m. subst (λ (y : ℕ). e ≤ y) (sym (getD-drop (w .number) (times i) j 0)) (le-trans (subst (λ (y : ℕ). e ≤ y) ex h) (later j m))))
-        where
-          later : (j : ℕ) → j < length (drop (w .number) (times i)) → getD (times i) (w .number) 0 ≤ getD (times i) (w .number + j) 0
-          later j m = not-falling _ (times i) (images.is-fit i ok .rises) (w .number) (w .number + j) (omega arith) (let q = length-drop (w .number) (times i) in omega arith)
+      module _ (l : w .number < p .«num_pushed») (x : ℕ) (ex : x ≡ getD (times i) (w .number) 0) where
+        -- the next time is not below the span's end, and no later one is
+        pub counts-stop : e ≤ x → count ≡ countIn ws 0 e (drop k (times i))
+        counts-stop h = none-left (count-none ws 0 e (drop (w .number) (times i)) (λ j m. subst (λ (y : ℕ). e ≤ y) (sym (getD-drop (w .number) (times i) j 0)) (le-trans (subst (λ (y : ℕ). e ≤ y) ex h) (later j m))))
+          where
+            later : (j : ℕ) → j < length (drop (w .number) (times i)) → getD (times i) (w .number) 0 ≤ getD (times i) (w .number + j) 0
+            later j m = not-falling _ (times i) (images.is-fit i ok .rises) (w .number) (w .number + j) (omega arith) (let q = length-drop (w .number) (times i) in omega arith)
 
-      pub counts-more : x < e → (t : ℕ) → t ≡ flag (inSome ws (x % week)) → (w′ : Walk) → WalkOver i p w′ → w′ .number ≡ suc (w .number) → CountsOn i p ws e k w′ (count + t)
-      counts-more h t et w′ g n =
-          let q = s .same in
-          let y = count-next ws e (w .number) (times i) (omega (arith, many)) (subst (λ (z : ℕ). z < e) ex h) in
-          let z : t ≡ flag (inSome ws (getD (times i) (w .number) 0 % week)) = et ∙ ap (λ (v : ℕ). flag (inSome ws (v % week))) ex in
-          let d = ap (λ (v : ℕ). countIn ws 0 e (drop v (times i))) n in
-          record {
-            walking = g;
-            few = let f = s .few in let b = flag-le (inSome ws (x % week)) in omega arith;
-            same = omega arith;
-          }
+        pub counts-more : x < e → (t : ℕ) → t ≡ flag (inSome ws (x % week)) → (w′ : Walk) → WalkOver i p w′ → w′ .number ≡ suc (w .number) → CountsOn i p ws e k w′ (count + t)
+        counts-more h t et w′ g n =
+            let q = s .same in
+            let y = count-next ws e (w .number) (times i) (omega (arith, many)) (subst (λ (z : ℕ). z < e) ex h) in
+            let z : t ≡ flag (inSome ws (getD (times i) (w .number) 0 % week)) = et ∙ ap (λ (v : ℕ). flag (inSome ws (v % week))) ex in
+            let d = ap (λ (v : ℕ). countIn ws 0 e (drop v (times i))) n in
+            record {
+              walking = g;
+              few = let f = s .few in let b = flag-le (inSome ws (x % week)) in omega arith;
+              same = omega arith;
+            }
 
 -- ---- the answers
 

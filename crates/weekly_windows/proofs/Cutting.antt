@@ -52,7 +52,7 @@ module _ (a b r : ℕ) where
   in-window h k = simp (le-leb a r h, lt-ltb r b k)
 
 -- the first k words are at or below r, and no others
-pub odd-inside :
+odd-inside :
     (ws : List ℕ) (k r : ℕ)
     → length ws % 2 ≡ 0 → k ≤ length ws → ((j : ℕ) → j < k → getD ws j 0 ≤ r) → ((j : ℕ) → k ≤ j → j < length ws → r < getD ws j 0)
     → k % 2 ≡ flag (inSome ws r)

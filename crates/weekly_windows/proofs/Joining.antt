@@ -55,7 +55,7 @@ swap : (p q t : Bool) → (p || (q || t)) ≡ (q || (p || t))
 swap p q t = sym (or-assoc p q t) ∙ ap (λ (b : Bool). b || t) (or-comm p q) ∙ or-assoc q p t
 
 -- a second is in the window or in the others
-pub inside-inserted : (x y : ℕ) (ws : List ℕ) (r : ℕ) → inSome (inserted x y ws) r ≡ (between x y r || inSome ws r)
+inside-inserted : (x y : ℕ) (ws : List ℕ) (r : ℕ) → inSome (inserted x y ws) r ≡ (between x y r || inSome ws r)
 unfolding inSome inserted
 inside-inserted x y [] r = refl
 inside-inserted x y (c ∷ []) r = refl

@@ -115,7 +115,7 @@ fn meet(x: u64, y: u64, c: u64, d: u64) -> Met
     }
 }
 
-// The window from a to b joins the first `len` words, windows in order; how many words there are then. One pass: what is written stands before what is read.
+// The window from a to b joins the first `len` words, windows in order; how many words there are then. One pass: what is written never passes what is read.
 fn insert(cuts: &mut [u64; 65], len: usize, a: u64, b: u64) -> usize
     requires { ⌜ ((length (now cuts) ≡ 65) × (len % 2 ≡ 0) × (len ≤ 62)) ⌝ }
     ensures { λ r. ⌜ ((length (now (cuts .exit)) ≡ 65) × (r % 2 ≡ 0) × (r ≤ len + 2) × (take r (now (cuts .exit)) ≡ inserted a b (take len (now (cuts .entry))))) ⌝ }

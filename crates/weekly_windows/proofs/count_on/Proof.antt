@@ -1,7 +1,6 @@
 -- `weekly_windows::count_on` meets its contract. The invariant: the values before the walk are counted. The measure: how many are left.
 -- Assumes nothing.
 use mathlib.Core.Path.{_≡_, refl}
-use mathlib.Core.List.{[]}
 use Prim.Native.Nat.{_-_, _%_}
 use native.Mathlib.Omega.{arith}
 use lib.ListN.{take}
@@ -36,7 +35,7 @@ add-count : tie.Need-add-count Inv-loop μ-loop
 add-count c =
     let s = c .before .before .before .before .before .before .before in
     let l = c .before .before .before .before .before .loop in
-    let m = counting.few-times (s .args .image .now) (s .pre .0 .ok) (s .args .p) (s .pre .0 .parts) [] 0 in
+    let m = counting.few-times (s .args .image .now) (s .pre .0 .ok) (s .args .p) (s .pre .0 .parts) in
     omega (arith, c .is-inside .ensures, flag-le (inSome (take (s .args .n) (s .args .cuts .now)) (c .before .before .take .result .value % 604800)), l .inv .1 .few, c .before .before .before .if1 .taken)
 
 loop-less : tie.Need-loop-less Inv-loop μ-loop
