@@ -1,4 +1,5 @@
 pub mod Blocks
 pub mod Counts
 pub mod Index
+pub mod Overflow
 pub mod Positions
