@@ -87,13 +87,13 @@ by-sized P n o e f =
     let d = ap (λ (m : ℕ). (m + 1023) / 1024) e in
     record { positions = e; entries = d; lanes = ap (λ (m : ℕ). (m + 31) / 32) e; overflow = f ∙ ap (before P) d }
 
-module _ (P : List ℕ) (s : Sizes) (z : Sized P s) where
-  pub lanes-start : s .entries + (s .lanes + 3) / 4 ≡ blocks P + laneWords P
-  unfolding laneWords
-  lanes-start = ap₂ (λ (x y : ℕ). x + (y + 3) / 4) (z .entries) (z .lanes)
+pub lanes-start : (P : List ℕ) (s : Sizes) → s .entries ≡ blocks P → s .lanes ≡ lanes P → s .entries + (s .lanes + 3) / 4 ≡ blocks P + laneWords P
+unfolding laneWords
+lanes-start P s e l = ap₂ (λ (x y : ℕ). x + (y + 3) / 4) e l
 
+module _ (P : List ℕ) (s : Sizes) (z : Sized P s) where
   pub index-length : s .entries + (s .lanes + 3) / 4 + s .overflow ≡ length (indexWords P)
-  index-length = ap₂ (λ (x y : ℕ). x + y) lanes-start (z .overflow) ∙ sym (index.length-index P)
+  index-length = ap₂ (λ (x y : ℕ). x + y) (lanes-start P s (z .entries) (z .lanes)) (z .overflow) ∙ sym (index.length-index P)
 
   pub sizes-lt : length P < 2 ^ 63 → (s .lanes + 3 < 2 ^ 64) × (s .entries + (s .lanes + 3) / 4 + s .overflow < 2 ^ 64)
   unfolding blocks lanes
@@ -104,16 +104,16 @@ positions-lt b ws len h = omega (arith, places.length-places (bitOver b ws) (bit
 
 module _ (b : Bool) (ws : List ℕ) (len : ℕ) (s : Sizes) (m : ℕ) (w : Writable (positions b ws len) len (length ws) s m) where
   pub positions-count : s .positions ≡ count (bitOver b ws) len
-  positions-count = w .sized .positions ∙ places.length-places (bitOver b ws) (bitOver-le b ws) len
+  positions-count = w .positions ∙ places.length-places (bitOver b ws) (bitOver-le b ws) len
 
   -- a block's first position is there
   pub block-there : (j : ℕ) → j < s .entries → 1024 * j < s .positions
   unfolding blocks
-  block-there j h = omega (arith, w .sized .entries, w .sized .positions)
+  block-there j h = omega (arith, w .entries, w .positions)
 
   pub size-is : (j z : ℕ) → z ≡ min 1024 (s .positions - 1024 * j) → z ≡ size (positions b ws len) j
   unfolding size
-  size-is j z e = e ∙ ap (λ (n : ℕ). min 1024 (n - 1024 * j)) (w .sized .positions)
+  size-is j z e = e ∙ ap (λ (n : ℕ). min 1024 (n - 1024 * j)) (w .positions)
 
   -- the block j, as it was taken
   module _ (j z : ℕ) (h : j < s .entries) (ez : z ≡ min 1024 (s .positions - 1024 * j)) where
@@ -121,7 +121,7 @@ module _ (b : Bool) (ws : List ℕ) (len : ℕ) (s : Sizes) (m : ℕ) (w : Writa
     inside k e = block.inside b ws len (s .positions) positions-count (length ws) (k + (z - 1)) (omega (arith, w .words)) (w .few) (omega (arith, block-there j h))
 
     pub there : j < blocks (positions b ws len)
-    there = subst (λ (x : ℕ). j < x) (w .sized .entries) h
+    there = subst (λ (x : ℕ). j < x) (w .entries) h
 
     -- where those were stored that are due
     pub sampled-shows : (a : List ℕ) (v : Bool) → v ≡ wide (positions b ws len) j → Sampled (bitOver b ws) (1024 * j) z v a → Shows (positions b ws len) j a
@@ -175,10 +175,10 @@ module _ (b : Bool) (ws : List ℕ) (len : ℕ) (s : Sizes) (m : ℕ) (w : Writa
 
       module _ (o : ℕ) (eo : o ≡ before (positions b ws len) j) (l : List ℕ) where
         lanes-at : lanesAt 0 s j ≡ blocks (positions b ws len) + 8 * j
-        lanes-at = omega (arith, w .sized .entries)
+        lanes-at = omega (arith, w .entries)
 
         over-at : overAt 0 s o ≡ blocks (positions b ws len) + laneWords (positions b ws len) + before (positions b ws len) j
-        over-at = omega (arith, lanes-start (positions b ws len) s (w .sized))
+        over-at = omega (arith, lanes-start (positions b ws len) s (w .entries) (w .lanes))
 
         pub index-matches : l ≡ indexWords (positions b ws len) → Matches a z (0 + j) (lanesAt 0 s j) o (overAt 0 s o) l
         index-matches e =
@@ -197,13 +197,13 @@ module _ (b : Bool) (ws : List ℕ) (len : ℕ) (s : Sizes) (m : ℕ) (w : Writa
           few = omega arith;
           rising = rising;
           entry-room = omega (arith, index.length-index (positions b ws len), there, room);
-          lanes-room = omega (arith, index.length-index (positions b ws len), flush.lanes-room (positions b ws len) j there, room, w .sized .entries, size-is j z ez);
-          over-room = omega (arith, flush.over-room (positions b ws len) j there a stored l room, lanes-start (positions b ws len) s (w .sized), ap (blockSpill a) (size-is j z ez));
+          lanes-room = omega (arith, index.length-index (positions b ws len), flush.lanes-room (positions b ws len) j there, room, w .entries, size-is j z ez);
+          over-room = omega (arith, flush.over-room (positions b ws len) j there a stored l room, lanes-start (positions b ws len) s (w .entries) (w .lanes), ap (blockSpill a) (size-is j z ez));
         }
 
         module _ (l′ : List ℕ) (e : l′ ≡ flushed a z j (s .entries + 8 * j) o (s .entries + (s .lanes + 3) / 4 + o) l) where
           is-after : l′ ≡ flushed a (size (positions b ws len) j) j (blocks (positions b ws len) + 8 * j) (before (positions b ws len) j) (blocks (positions b ws len) + laneWords (positions b ws len) + before (positions b ws len) j) l
-          is-after = cc (w .sized .entries, lanes-start (positions b ws len) s (w .sized), size-is j z ez)
+          is-after = cc (w .entries, lanes-start (positions b ws len) s (w .entries) (w .lanes), size-is j z ez)
 
           pub next-long : length l′ ≡ length l
           next-long = ap length is-after ∙ flush.length-after (positions b ws len) j there a stored l room

@@ -63,7 +63,7 @@ module _ (b : Bool) (ws : List ℕ) (len : ℕ) (s : Sizes) (l : List ℕ) (w : 
       record { positions = e; entries = w .entries ∙ ap (λ (n : ℕ). (n + 1023) / 1024) e; lanes = w .lanes ∙ ap (λ (n : ℕ). (n + 31) / 32) e; overflow = refl }
 
   writable : Writable P len (length ws) right (length (indexWords P))
-  writable = record { sized = sized; words = w .words; few = w .few; room = le-refl (length (indexWords P)) }
+  writable = record { positions = sized .positions; entries = sized .entries; lanes = sized .lanes; words = w .words; few = w .few; room = le-refl (length (indexWords P)) }
 
   length-is : length (indexWords P) ≡ s .entries + (s .lanes + 3) / 4 + before P (blocks P)
   length-is = sym (building.index-length P right sized)

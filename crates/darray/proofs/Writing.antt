@@ -11,7 +11,7 @@ use Rattle.broadword.specs.Bits.{count}
 use Rattle.broadword.specs.Places.{SelectInByte, Debruijn64}
 use Rattle.bit_words.specs.Vector.{bitOver}
 use Rattle.darray_positions.specs.Positions.{positions}
-use Rattle.darray_positions.specs.Index.{indexWords}
+use Rattle.darray_positions.specs.Index.{blocks, lanes, before, indexWords}
 use Rattle.darray_positions.specs.Scan.{Ahead, Inside, lastInBlock}
 use Rattle.darray.specs.Sizes.{Writable}
 use Rattle.darray.specs.Pending.{Loaded, LanesRise, blockSpill, put, flushed, Flushable, lanesAt, overAt, blockEntry, blockLaneWord}
@@ -95,10 +95,11 @@ module _ (b : Bool) (ws : List ℕ) (len : ℕ) (l₀ : List ℕ) (at : ℕ) (s 
 
   -- the entries have their places
   pub entries-in : at + s .entries ≤ length l₀
-  entries-in = omega (arith, building.index-length P s (w .sized), w .room)
+  entries-in = omega (arith, index.length-index P, w .entries, w .room)
 
   pub lanes-fit : s .lanes + 3 < 2 ^ 64
-  lanes-fit = building.sizes-lt P s (w .sized) (building.positions-lt b ws len (w .few)) .0
+  unfolding lanes
+  lanes-fit = omega (arith, w .lanes, building.positions-lt b ws len (w .few))
 
   module _ (l a : List ℕ) (from : Cursor) (o j : ℕ) (x : Writing b ws len l₀ at l a from o j) where
     pub spilled-lt : o < 2 ^ 63
@@ -108,7 +109,11 @@ module _ (b : Bool) (ws : List ℕ) (len : ℕ) (l₀ : List ℕ) (at : ℕ) (s 
     pub writing-all : j ≡ s .entries → l ≡ take at l₀ ++ (indexWords P ++ drop (length (indexWords P)) (drop at l₀))
     writing-all e =
         sym (take-append-drop at l)
-        ∙ ap₂ (λ (u v : List ℕ). u ++ v) (x .below) (building.written-all P (drop at l₀) (drop at l) o j (e ∙ w .sized .entries) (subst⁻¹ (λ (n : ℕ). length (indexWords P) ≤ n) (length-drop at l₀) (w .room)) (x .written))
+        ∙ ap₂ (λ (u v : List ℕ). u ++ v) (x .below) (building.written-all P (drop at l₀) (drop at l) o j (e ∙ w .entries) (subst⁻¹ (λ (n : ℕ). length (indexWords P) ≤ n) (length-drop at l₀) (w .room)) (x .written))
+
+    -- and all its overflow positions
+    pub spilled-all : j ≡ s .entries → o ≡ before P (blocks P)
+    spilled-all e = x .written .spilled ∙ ap (before P) (e ∙ w .entries)
 
     -- the next block, from the words v that are lent
     module _ (v : List ℕ) (ev : v ≡ ws) (h : j < s .entries) where

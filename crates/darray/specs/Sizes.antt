@@ -20,9 +20,12 @@ pub record Sized (P : List ℕ) (s : Sizes) : Type 0 where
   pub lanes : s .lanes ≡ lanes P
   pub overflow : s .overflow ≡ before P (blocks P)
 
--- the sizes are right, and there is room: for the len bits in m words, and for the index in k words
+-- the numbers of positions, entries and lanes are right, and there is room: for the len bits in m words, and for the index in k words. How many positions
+-- go to the overflow need not be known before
 pub record Writable (P : List ℕ) (len m : ℕ) (s : Sizes) (k : ℕ) : Type 0 where
-  pub sized : Sized P s
+  pub positions : s .positions ≡ length P
+  pub entries : s .entries ≡ blocks P
+  pub lanes : s .lanes ≡ lanes P
   pub words : wordsFor len ≤ m
   pub few : len < 2 ^ 63
   pub room : length (indexWords P) ≤ k

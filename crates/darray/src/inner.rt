@@ -5,8 +5,7 @@
 // Each call takes time linear in the words, and looks for no position between every 32nd but in a block that overflows, or nearly. None needs
 // more memory than one block's positions.
 //
-// `write_within` and `is_index` are inner: the first demands the sizes that `measure` gives of the bits, and room for the index, the second
-// how many positions the bits have. `sizes_by` and `total` demand numbers whose sums are in range.
+// `write_within` and `is_index` are inner: both demand how many positions the bits have, the first also room for the index. `sizes_by` and `total` demand numbers whose sums are in range.
 ghost use mathlib.Core.Path.{_≡_};
 ghost use mathlib.Core.List.{_++_};
 ghost use Prim.Native.Nat.{_+_, _-_, _/_, _^_, _≤_, _<_};
@@ -16,7 +15,7 @@ ghost use Rattle.broadword.specs.Bits.{count};
 ghost use Rattle.broadword.specs.Places.{SelectInByte, Debruijn64};
 ghost use Rattle.bit_words.specs.Vector.{wordsFor, bitOver};
 ghost use Rattle.darray_positions.specs.Positions.{positions};
-ghost use Rattle.darray_positions.specs.Index.{before, indexWords};
+ghost use Rattle.darray_positions.specs.Index.{blocks, before, indexWords};
 ghost use Rattle.darray.specs.Pending.{Decides};
 ghost use Rattle.darray.specs.Queries.{ofMeasured, ofBuiltIndex, ofValidated, measureOf, buildIndexOf, validateOf};
 ghost use Rattle.darray_positions.specs.Scan.{FullBlocks};
@@ -219,7 +218,7 @@ fn write(words: &[u64], len: usize, over_one: bool, s: Sizes, out: &mut [u64])
 
 // Writes the index to the words that hold the bits too, from the place `at` on. It is the loop of `write_blocks`: there the bits are lent beside
 // the words that are written, and here they cannot be. The bits are the first len of the words from `first` on, and end
-// before that place.
+// before that place. How many positions go to the overflow is not known before, and comes back.
 fn write_blocks_within(
     table: &[u8; 2048],
     lowest: &[u8; 64],
@@ -229,9 +228,9 @@ fn write_blocks_within(
     over_one: bool,
     s: Sizes,
     at: usize,
-)
+) -> usize
     requires { ⌜ (SelectInByte (now table) × Debruijn64 (now lowest) × (first + wordsFor len ≤ at) × (at ≤ length (now buf)) × Writable (positions «over_one» (take (wordsFor len) (drop first (now buf))) len) len (length (take (wordsFor len) (drop first (now buf)))) s (length (now buf) - at)) ⌝ }
-    ensures { λ _. ⌜ now (buf .exit) ≡ take at (now (buf .entry)) ++ (indexWords (positions «over_one» (take (wordsFor len) (drop first (now (buf .entry)))) len) ++ drop (length (indexWords (positions «over_one» (take (wordsFor len) (drop first (now (buf .entry)))) len))) (drop at (now (buf .entry)))) ⌝ }
+    ensures { λ r. ⌜ ((now (buf .exit) ≡ take at (now (buf .entry)) ++ (indexWords (positions «over_one» (take (wordsFor len) (drop first (now (buf .entry)))) len) ++ drop (length (indexWords (positions «over_one» (take (wordsFor len) (drop first (now (buf .entry)))) len))) (drop at (now (buf .entry))))) × (r ≡ before (positions «over_one» (take (wordsFor len) (drop first (now (buf .entry)))) len) (blocks (positions «over_one» (take (wordsFor len) (drop first (now (buf .entry)))) len)))) ⌝ }
 {
     let end = first + words_for(len);
     let n = s.positions;
@@ -259,16 +258,33 @@ fn write_blocks_within(
         over += more;
         j += 1;
     }
+    over
 }
 
-// The same, with the tables made here.
-pub fn write_within(buf: &mut [u64], first: usize, len: usize, over_one: bool, s: Sizes, at: usize)
-    requires { ⌜ ((first + wordsFor len ≤ at) × (at ≤ length (now buf)) × Writable (positions «over_one» (take (wordsFor len) (drop first (now buf))) len) len (length (take (wordsFor len) (drop first (now buf)))) s (length (now buf) - at)) ⌝ }
-    ensures { λ _. ⌜ now (buf .exit) ≡ take at (now (buf .entry)) ++ (indexWords (positions «over_one» (take (wordsFor len) (drop first (now (buf .entry)))) len) ++ drop (length (indexWords (positions «over_one» (take (wordsFor len) (drop first (now (buf .entry)))) len))) (drop at (now (buf .entry)))) ⌝ }
+// The same for n positions, with the tables made here.
+pub fn write_within(
+    buf: &mut [u64],
+    first: usize,
+    len: usize,
+    over_one: bool,
+    n: usize,
+    at: usize,
+) -> usize
+    requires { ⌜ ((first + wordsFor len ≤ at) × (at ≤ length (now buf)) × Writable (positions «over_one» (take (wordsFor len) (drop first (now buf))) len) len (length (take (wordsFor len) (drop first (now buf)))) (sizesBy n 0) (length (now buf) - at)) ⌝ }
+    ensures { λ r. ⌜ ((now (buf .exit) ≡ take at (now (buf .entry)) ++ (indexWords (positions «over_one» (take (wordsFor len) (drop first (now (buf .entry)))) len) ++ drop (length (indexWords (positions «over_one» (take (wordsFor len) (drop first (now (buf .entry)))) len))) (drop at (now (buf .entry))))) × (r ≡ before (positions «over_one» (take (wordsFor len) (drop first (now (buf .entry)))) len) (blocks (positions «over_one» (take (wordsFor len) (drop first (now (buf .entry)))) len)))) ⌝ }
 {
     let table = select_in_byte_table();
     let lowest = debruijn64_table();
-    write_blocks_within(&table, &lowest, buf, first, len, over_one, s, at);
+    write_blocks_within(
+        &table,
+        &lowest,
+        buf,
+        first,
+        len,
+        over_one,
+        sizes_by(n, 0),
+        at,
+    )
 }
 
 // Whether the words are the index over the ones or the zeros of the bits, which has n positions: block by block, with one block's positions in

@@ -16,17 +16,18 @@ use Rattle.darray_positions.specs.Index.{indexWords}
 use Rattle.darray_positions.specs.Positions.{positions}
 use Rattle.darray.specs.Queries.{same}
 use Rattle.darray.proofs.Matching.{same-refl}
-use Rattle.elias_fano_words.specs.Sizes.{lowLen, highLen}
+use Rattle.elias_fano_words.specs.Sizes.{lowLen, highLen, indexLen}
 use Rattle.elias_fano_words.specs.Image.{lowNumber, spilled, highWords, lowWords, highPositions, image}
 use Rattle.elias_fano_words.specs.Times.{rising, unrepeatedIf, bitWords, timesIn, holds, holdsIf}
 use Rattle.elias_fano_words.proofs.Decode.{times-of, length-high, count-high}
 use Rattle.elias_fano_words.proofs.Holds.{fit-held, length-held}
 use Rattle.broadword.proofs.Truth.{and-true, true-and}
 use Rattle.elias_fano_words.proofs.Valid.{valid-high}
-use Rattle.elias_fano.specs.Accept.{fit, universe, declared, pushed, ranked, times, accepted, acceptedIf, indexLen}
+use Rattle.elias_fano_words.proofs.Lengths.{index-length, all-bits, ones-are, ones-many, zeros-many}
+use Rattle.elias_fano.specs.Accept.{fit, universe, declared, pushed, ranked, times, accepted, acceptedIf}
 use Rattle.elias_fano.specs.Opening.{highOf, onesIn, zerosIn, highIn, bitsIn, Headed, Indexes}
 use Rattle.elias_fano.proofs.Images.{Fits, of-fits, is-fit, is-image}
-use Rattle.elias_fano.proofs.Parts.{index-length, all-bits, ones-are, ones-many, zeros-many, headed, holds-in, indexes-in}
+use Rattle.elias_fano.proofs.Parts.{headed, holds-in, indexes-in}
 
 -- what is found of an image
 pub record Found (i : List ℕ) : Type 0 where

@@ -12,8 +12,9 @@ use lib.ListN.{length, getD}
 use Rattle.darray.specs.Pending.{Decides}
 use Rattle.darray.proofs.Matching.{it-is, it-is-not}
 use Rattle.broadword.proofs.Truth.{true-false}
+use Rattle.elias_fano_words.specs.Sizes.{indexLen}
 use Rattle.elias_fano.specs.declared.image.Parts.{Parts}
-use Rattle.elias_fano.specs.Accept.{universe, declared, pushed, ranked, accepted, indexLen, partsBy, partsOf}
+use Rattle.elias_fano.specs.Accept.{universe, declared, pushed, ranked, accepted, partsBy, partsOf}
 use Rattle.elias_fano.specs.Opening.{highOf, zerosIn, endIn, Counts, Limits, Complete, Headed}
 use Rattle.elias_fano.proofs.Accepting.{found}
 use Rattle.elias_fano.proofs.Limits as limits

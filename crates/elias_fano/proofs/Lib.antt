@@ -9,9 +9,9 @@ pub mod Images
 pub mod Indexing
 pub mod Limits
 pub mod Listing
+pub mod Measuring
 pub mod Parts
 pub mod Placing
-pub mod Planning
 pub mod Selecting
 pub mod Spilled
 pub mod Standing

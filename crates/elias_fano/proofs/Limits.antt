@@ -6,9 +6,8 @@ use native.Mathlib.Omega.{arith}
 use mir.Syntax.{w64}
 use mir.Val.{Fits}
 use Rattle.bit_words.specs.Vector.{wordsFor}
-use Rattle.elias_fano_words.specs.Sizes.{lowLen, highLen}
+use Rattle.elias_fano_words.specs.Sizes.{lowLen, highLen, indexLen}
 use Rattle.elias_fano_words.proofs.Bounds.{low-lt, high-le}
-use Rattle.elias_fano.specs.Accept.{indexLen}
 
 module _ (u n m : ℕ) (hu : u < 2 ^ 64) (some : 0 < n) (most : n ≤ 16777216) (few : m ≤ n) where
   pub high-small : highLen u n ≤ 50331649

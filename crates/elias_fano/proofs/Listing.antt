@@ -2,35 +2,35 @@
 -- Whoever writes the record of a whole list rests on this. Assumes nothing.
 use mathlib.Core.Path.{_≡_, refl, sym, ap, ap₂, _∙_, subst, subst⁻¹}
 use mathlib.Core.List.{List, [], _∷_, _++_, append-assoc}
-use mathlib.Core.Bool.{Bool, true}
+use mathlib.Core.Bool.{Bool, true, false, cond}
 use Prim.Native.Nat.{ℕ, zero, suc, _+_, _-_, _*_, _^_, _≤_, _<_}
 use native.Mathlib.Nat.{le-refl, le-of-eq, not-suc-le-zero, le-of-suc-le-suc}
 use native.Mathlib.Omega.{arith}
+use borrow.Author.Tests.{le-leb}
+use lib.Dec.{leb}
 use lib.ListN.{length, getD, take, drop, replicate, length-append, length-drop, length-replicate}
 use lib.Seq.{take-all, take-suc, length-take-le, drop-append-add, drop-drop, drop-at, take-at}
-use Rattle.bit_words.specs.Vector.{wordsFor, numberWords}
+use Rattle.bit_words.specs.Vector.{wordsFor}
 use Rattle.bit_words.proofs.Runs.{Fit}
-use Rattle.darray.specs.Sizes.{Sized}
-use Rattle.darray.specs.declared.inner.Sizes.{Sizes as IndexSizes}
-use Rattle.elias_fano_words.specs.Image.{highWords, highPositions, lowNumber, image}
-use Rattle.elias_fano_words.specs.Sizes.{lowLen, highLen, startLen, sizesOf}
+use Rattle.darray_positions.specs.Index.{blocks, before}
+use Rattle.darray_positions.proofs.Index.{length-overflow}
+use Rattle.elias_fano_words.specs.Image.{spilled, highPositions, image}
+use Rattle.elias_fano_words.specs.Sizes.{lowLen, highLen, startLen, sizesOf, imageLen, limit}
 use Rattle.elias_fano_words.specs.Times.{rising, lastFrom, lastOf, bitWords}
 use Rattle.elias_fano_words.specs.declared.sizes.Sizes.{Sizes}
-use Rattle.elias_fano_words.proofs.Decode.{length-high, length-words}
+use Rattle.elias_fano_words.proofs.Decode.{length-words}
+use Rattle.elias_fano_words.proofs.Lengths as lengths
+use Rattle.elias_fano_words.proofs.Limit as limit
 use Rattle.elias_fano_words.proofs.Rising.{rising-first, rising-cons, rising-none, rising-lt, lastOf-snoc}
-use Rattle.elias_fano.specs.Accept.{onesAt}
-use Rattle.elias_fano.specs.Finishing.{zerosOf, Short, planBy, Planned, Holding, Finishable, filedIn}
+use Rattle.elias_fano.specs.Finishing.{Holding, Finishable, filedIn}
 use Rattle.elias_fano.specs.Made.{builder}
 use Rattle.elias_fano.specs.Steps.{sound, intact, filed, imageOf, finishedWords}
 use Rattle.elias_fano.specs.Testing.{Fileable}
 use Rattle.elias_fano.specs.declared.builder.Builder.{Builder}
-use Rattle.elias_fano.specs.declared.finish.Plan.{Plan}
 use Rattle.elias_fano.proofs.Filled as filled
 use Rattle.elias_fano.proofs.Filled.{Room}
-use Rattle.elias_fano.proofs.Finished as finished
 use Rattle.elias_fano.proofs.Images.{Fits}
 use Rattle.elias_fano.proofs.Limits as limits
-use Rattle.elias_fano.proofs.Planning as planning
 
 -- the first times of a list in order are in order
 rising-take : (u x k : ℕ) (T : List ℕ) → rising u x T ≡ true → rising u x (take k T) ≡ true
@@ -45,6 +45,43 @@ last-le u x zero (t ∷ T) r h = rising-first u x t T r .0
 last-le u x (suc i) (t ∷ T) r h = last-le u t i T (rising-first u x t T r .2) (le-of-suc-le-suc h)
 
 module _ (u n : ℕ) (T : List ℕ) (f : Fits u n T) (many : length T ≡ n) where
+  -- ---- how long the image is
+
+  image-length : (c : Bool) → length (image u n c T) ≡ imageLen u n n c (spilled (highPositions u n true T)) (cond c (spilled (highPositions u n false T)) 0)
+  image-length c = lengths.image-length u n T (f .rises) (f .few) c ∙ ap (λ (m : ℕ). imageLen u n m c (spilled (highPositions u n true T)) (cond c (spilled (highPositions u n false T)) 0)) many
+
+  pub start-le : (c : Bool) → startLen u n ≤ length (image u n c T)
+  unfolding startLen
+  start-le c = let e = image-length c in omega arith
+
+  -- by what is measured, or by the limit
+  module _ (c : Bool) (s : Sizes) (es : s ≡ sizesOf u n) where
+    pub limit-ready : (s .«start_len» < 2 ^ 32) × (s .«high_len» < 2 ^ 32) × (n < 2 ^ 32)
+    limit-ready = limit.limit-ready u n (f .small) (f .some) (f .most) s es
+
+    pub limit-room : (x k : ℕ) → x ≡ limit u n c → x ≤ k → true ≡ leb (length (image u n c T)) k
+    limit-room x k e h = sym (le-leb (length (image u n c T)) k (let a = limit.image-most u n T (f .rises) (f .few) c in omega arith))
+
+    over-is : (b : Bool) → spilled (highPositions u n b T) ≡ before (highPositions u n b T) (blocks (highPositions u n b T))
+    over-is b = length-overflow (highPositions u n b T) (blocks (highPositions u n b T))
+
+    over-small : (b : Bool) → before (highPositions u n b T) (blocks (highPositions u n b T)) < 2 ^ 32
+    over-small b = let h = limits.high-small u n n (f .small) (f .some) (f .most) (le-refl n) in omega (arith, limit.spilled-most u n b T, over-is b)
+
+    module _ (o z : ℕ) (eo : o ≡ before (highPositions u n true T) (blocks (highPositions u n true T))) (ez : z ≡ cond c (before (highPositions u n false T) (blocks (highPositions u n false T))) 0) where
+      pub len-ready : (s .«low_at» < 2 ^ 32) × (n * s .«low_len» < 2 ^ 32) × (s .«high_len» < 2 ^ 32) × (n ≤ s .«high_len») × (o < 2 ^ 32) × (z < 2 ^ 32)
+      unfolding highLen
+      len-ready =
+          let h = limits.high-small u n n (f .small) (f .some) (f .most) (le-refl n) in
+          let p = limits.product-small u n n (f .small) (f .some) (f .most) (le-refl n) in
+          subst⁻¹ (λ (x : Sizes). (x .«low_at» < 2 ^ 32) × (n * x .«low_len» < 2 ^ 32) × (x .«high_len» < 2 ^ 32) × (n ≤ x .«high_len») × (o < 2 ^ 32) × (z < 2 ^ 32)) es
+          (omega arith, omega arith, omega arith, omega arith, omega (arith, over-small true), omega (arith, limit.if-le c (before (highPositions u n false T) (blocks (highPositions u n false T))), over-small false))
+
+      pub measured-is : (k : ℕ) → ((u n : ℕ) → s ≡ sizesOf u n → k ≡ imageLen u n (length T) c o z) → k ≡ length (image u n c T)
+      measured-is k e =
+          e u n es ∙ (λ x. imageLen u n (length T) c (eo x) (ez x))
+          ∙ (λ x. imageLen u n (length T) c (sym (over-is true) x) (cond c (sym (over-is false) x) 0)) ∙ sym (lengths.image-length u n T (f .rises) (f .few) c)
+
   -- ---- filing
 
   module _ (w : List ℕ) (fw : Fit w) (long : startLen u n ≤ length w) where
@@ -142,23 +179,7 @@ module _ (u n : ℕ) (T : List ℕ) (f : Fits u n T) (many : length T ≡ n) whe
       is-intact = ap₂ (λ (x : Builder) (y : List ℕ). intact x y) (sym numbers-all) (sym (words-are T)) ∙ filled.held-intact u n w room T f;
     }
 
-    high-is : take (wordsFor (highLen u n)) (drop 6 (filedIn u n T w)) ≡ highWords u n T
-    unfolding filedIn bitWords
-    high-is =
-        let D : List ℕ = drop (startLen u n) w in
-        let L : List ℕ = numberWords (wordsFor (n * lowLen u n)) (lowNumber (lowLen u n) T) in
-        ap (take (wordsFor (highLen u n))) (append-assoc (highWords u n T) L D) ∙ take-at (highWords u n T) (L ++ D) (wordsFor (highLen u n)) (length-high u n T)
-
-    module _ (c : Bool) (p : Plan) (q : Planned c (highWords u n T) (highLen u n) (onesAt u n n) p) where
-      planned : Planned c (take (wordsFor (highLen u n)) (drop 6 (filedIn u n T w))) (highLen u n) (onesAt u n n) p
-      planned = subst⁻¹ (λ (W : List ℕ). Planned c W (highLen u n) (onesAt u n n) p) high-is q
-
-      end-here : p .end ≡ length (image u n c T)
-      end-here = sym (finished.length-image b (filedIn u n T w) holding c p planned) ∙ ap length (image-is c)
-
-      finishable : Finishable b c p (filedIn u n T w)
-      finishable = record { holding = holding; planned = planned; long = end-here ∙ sym (ap length (image-is c)) }
-
+    module _ (c : Bool) where
       -- the image is as long as the start at least, so what follows it was never touched
       later-words : drop (length (image u n c T)) (filedIn u n T w) ≡ drop (length (image u n c T)) w
       unfolding filedIn startLen
@@ -168,7 +189,7 @@ module _ (u n : ℕ) (T : List ℕ) (f : Fits u n T) (many : length T ≡ n) whe
           let D : List ℕ = drop (startLen u n) w in
           let L : ℕ = length (image u n c T) in
           let m : length X ≡ startLen u n = (let a = length-append (replicate 6 0) (bitWords u n k T) in let c = length-words u n T k in omega arith) in
-          let g : startLen u n ≤ L = (let a = end-here in let z = q .end in omega arith) in
+          let g : startLen u n ≤ L = start-le c in
           let d : ℕ = L - startLen u n in
           let e : L ≡ length X + d = omega arith in
           let f : startLen u n + d ≡ L = omega arith in
@@ -177,44 +198,20 @@ module _ (u n : ℕ) (T : List ℕ) (f : Fits u n T) (many : length T ≡ n) whe
 
       -- of the builder and the words as a program has them
       module _ (b′ : Builder) (eb : b′ ≡ builder u n n (lastOf T)) (x : List ℕ) (ex : x ≡ filedIn u n T w) where
-        pub ready : p .end ≤ length w → Finishable b′ c p x × (p .end ≤ length x)
-        ready r = (
-          subst⁻¹ (λ (y : Builder). Finishable y c p x) eb (subst⁻¹ (Finishable b c p) ex finishable),
-          subst⁻¹ (λ (y : ℕ). p .end ≤ y) (ap length ex ∙ length-held T) r,
-        )
+        same-image : imageOf b′ c x ≡ image u n c T
+        same-image = ap₂ (λ (z : Builder) (v : List ℕ). imageOf z c v) eb ex ∙ image-is c
+
+        pub ready : (s : Sizes) → s ≡ sizesOf u n → length (image u n c T) ≤ length w → Finishable b′ c s x
+        ready s es r = record {
+          holding = subst⁻¹ (λ (y : Builder). Holding y x) eb (subst⁻¹ (Holding b) ex holding);
+          sizes = es ∙ ap (λ (y : Builder). sizesOf (y .universe) (y .«num_vals»)) (sym eb);
+          room = subst⁻¹ (λ (y : ℕ). length (imageOf b′ c x) ≤ y) (ap length ex ∙ length-held T) (subst⁻¹ (λ (I : List ℕ). length I ≤ length w) same-image r);
+        }
 
         pub wrote : (y : List ℕ) → y ≡ finishedWords b′ c x → y ≡ image u n c T ++ drop (length (image u n c T)) w
         wrote y e =
-            e ∙ ap₂ (λ (z : Builder) (v : List ℕ). finishedWords z c v) eb ex
-            ∙ ap (λ (I : List ℕ). I ++ drop (length I) (filedIn u n T w)) (image-is c)
+            e ∙ ap₂ (λ (I v : List ℕ). I ++ drop (length I) v) same-image ex
             ∙ ap (λ (r : List ℕ). image u n c T ++ r) later-words
 
-  -- ---- the plan, by the sizes of both indexes
-
-  module _ (c : Bool) (x y : IndexSizes) (zx : Sized (highPositions u n true T) x) (zy : Sized (zerosOf c (highWords u n T) (highLen u n)) y) (s : Sizes) (es : s ≡ sizesOf u n) where
-    pub plannable : Short x × Short y × (s .«start_len» < 2 ^ 32)
-    unfolding startLen
-    plannable =
-        let h = limits.high-small u n n (f .small) (f .some) (f .most) (le-refl n) in
-        let p = limits.product-small u n n (f .small) (f .some) (f .most) (le-refl n) in
-        let q = planning.both-short c (highWords u n T) (highLen u n) x y zx zy (omega arith) in
-        (q .0, q .1, subst⁻¹ (λ (r : Sizes). r .«start_len» < 2 ^ 32) es (omega arith))
-
-    pub planned-by : (p : Plan) → p ≡ planBy x y (s .«high_len») (s .«start_len») → Planned c (highWords u n T) (highLen u n) (onesAt u n n) p
-    unfolding startLen
-    planned-by p e =
-        subst⁻¹ (Planned c (highWords u n T) (highLen u n) (onesAt u n n)) (e ∙ ap (λ (r : Sizes). planBy x y (r .«high_len») (r .«start_len»)) es)
-        (planning.is-planned c (highWords u n T) (highLen u n) x y zx zy (onesAt u n n))
-
-  -- ---- how long the image is, by its plan
-
-  module _ (c : Bool) (p : Plan) (q : Planned c (highWords u n T) (highLen u n) (onesAt u n n) p) where
-    zeros-long : startLen u n ≤ length {A = ℕ} (replicate (startLen u n) 0)
-    zeros-long = le-of-eq (sym (length-replicate {A = ℕ} (startLen u n) 0))
-
-    pub end-is : p .end ≡ length (image u n c T)
-    end-is = end-here (replicate (startLen u n) 0) (filled.fit-zeros (startLen u n)) zeros-long c p q
-
-    pub start-le : startLen u n ≤ p .end
-    unfolding startLen
-    start-le = let z = q .end in omega arith
+        pub wrote-length : (k : ℕ) → k ≡ length (imageOf b′ c x) → k ≡ length (image u n c T)
+        wrote-length k e = e ∙ ap length same-image

@@ -7,57 +7,22 @@ use native.Mathlib.Nat.{le-refl}
 use native.Mathlib.Omega.{arith}
 use lib.ListN.{length, take, drop, length-append}
 use lib.Seq.{take-at, drop-at, drop-append-add}
-use Rattle.broadword.specs.Bits.{count}
-use Rattle.broadword.proofs.Count.{count-same}
 use Rattle.broadword.proofs.Truth.{flag-le}
-use Rattle.bit_words.specs.Vector.{bitAt, bitOver, wordsFor, numberWords}
+use Rattle.bit_words.specs.Vector.{wordsFor, numberWords}
 use Rattle.bit_words.proofs.Overwrite.{length-numberWords}
-use Rattle.bit_words.proofs.Runs.{bitAt-le, bitOver-le}
-use Rattle.darray_positions.specs.Index.{blocks, lanes, laneWords, indexWords}
+use Rattle.darray_positions.specs.Index.{indexWords}
 use Rattle.darray_positions.specs.Positions.{positions}
-use Rattle.darray_positions.proofs.Index.{length-overflow, length-index}
-use Rattle.darray_positions.proofs.Positions.{length-places}
-use Rattle.elias_fano_words.specs.Sizes.{lowLen, highLen}
+use Rattle.elias_fano_words.specs.Sizes.{lowLen, highLen, indexLen, imageLen}
 use Rattle.elias_fano_words.specs.Image.{lowNumber, spilled, highWords, lowWords, highPositions, image}
 use Rattle.elias_fano_words.specs.Times.{rising, bitWords, holds}
-use Rattle.elias_fano_words.proofs.Decode.{count-high, length-high}
+use Rattle.elias_fano_words.proofs.Decode.{length-high}
 use Rattle.elias_fano_words.proofs.Holds.{holds-words}
-use Rattle.elias_fano.specs.Accept.{ranked, indexLen}
+use Rattle.elias_fano_words.proofs.Lengths as lengths
+use Rattle.elias_fano.specs.Accept.{ranked}
 use Rattle.elias_fano.specs.Opening.{onesIn, zerosIn, endIn, highIn, bitsIn, Headed, Indexes}
 use Rattle.elias_fano.proofs.Images.{Fits, image-body, image-ranked}
 
--- ---- an index
-
-pub index-length : (P : List ℕ) → length (indexWords P) ≡ indexLen (length P) (spilled P)
-unfolding blocks lanes laneWords
-index-length P = length-index P ∙ ap (λ (x : ℕ). blocks P + laneWords P + x) (sym (length-overflow P (blocks P)))
-
--- ones and zeros are all bits
-pub all-bits : (ws : List ℕ) (n : ℕ) → count (bitOver true ws) n + count (bitOver false ws) n ≡ n
-unfolding count bitOver
-all-bits ws zero = refl
-all-bits ws (suc n) = let ih = all-bits ws n in let h = bitAt-le ws n in omega arith
-
-pub ones-are : (ws : List ℕ) (n : ℕ) → count (bitOver true ws) n ≡ count (bitAt ws) n
-unfolding bitOver
-ones-are ws n = count-same (bitOver true ws) (bitAt ws) n (λ i _. refl)
-
-module _ (u n : ℕ) (T : List ℕ) (r : rising u 0 T ≡ true) (few : length T ≤ n) where
-  pub ones-many : length (highPositions u n true T) ≡ length T
-  ones-many = length-places (bitOver true (highWords u n T)) (bitOver-le true (highWords u n T)) (highLen u n) ∙ ones-are (highWords u n T) (highLen u n) ∙ count-high u n T r few
-
-  pub zeros-many : length (highPositions u n false T) ≡ highLen u n - length T
-  zeros-many =
-      let a = length-places (bitOver false (highWords u n T)) (bitOver-le false (highWords u n T)) (highLen u n) in
-      let b = all-bits (highWords u n T) (highLen u n) in
-      let d = ones-are (highWords u n T) (highLen u n) ∙ count-high u n T r few in
-      a ∙ omega arith
-
 -- ---- the parts
-
-length-cond : (c : Bool) (A : List ℕ) → length (cond c A []) ≡ cond c (length A) 0
-length-cond true A = refl
-length-cond false A = refl
 
 none-picked : (c : Bool) (x : ℕ) → c ≡ false → cond c x 0 ≡ 0
 none-picked c x e = rw e
@@ -86,17 +51,10 @@ module _ (u n : ℕ) (c : Bool) (T : List ℕ) (f : Fits u n T) where
   length-bits = length-append (highWords u n T) (numberWords lw (lowNumber (lowLen u n) T)) ∙ ap₂ (λ (a b : ℕ). a + b) (length-high u n T) (length-numberWords lw (lowNumber (lowLen u n) T))
 
   length-ones : length ones ≡ indexLen (length T) (spilled (highPositions u n true T))
-  length-ones = index-length (highPositions u n true T) ∙ ap (λ (k : ℕ). indexLen k (spilled (highPositions u n true T))) (ones-many u n T (f .rises) (f .few))
+  length-ones = lengths.length-ones u n T (f .rises) (f .few)
 
-  length-zeros : length zeros ≡ cond c (indexLen (highLen u n - length T) (cond c (spilled (highPositions u n false T)) 0)) 0
-  length-zeros = length-cond c (indexWords (highPositions u n false T)) ∙ by c
-    where
-      P : List ℕ
-      P = highPositions u n false T
-
-      by : (c : Bool) → cond c (length (indexWords (highPositions u n false T))) 0 ≡ cond c (indexLen (highLen u n - length T) (cond c (spilled (highPositions u n false T)) 0)) 0
-      by true = index-length (highPositions u n false T) ∙ ap (λ (k : ℕ). indexLen k (spilled (highPositions u n false T))) (zeros-many u n T (f .rises) (f .few))
-      by false = refl
+  image-length : length I ≡ imageLen u n (length T) c (spilled (highPositions u n true T)) (cond c (spilled (highPositions u n false T)) 0)
+  image-length = lengths.image-length u n T (f .rises) (f .few) c
 
   -- the words after the header
   image-parts : drop 6 I ≡ bits ++ (ones ++ zeros)
@@ -110,30 +68,16 @@ module _ (u n : ℕ) (c : Bool) (T : List ℕ) (f : Fits u n T) where
   unfolding image
   six-words = refl
 
-  length-image : length I ≡ 6 + (length bits + (length ones + length zeros))
-  length-image =
-      ap length image-split ∙ length-append (take 6 I) (bits ++ (ones ++ zeros))
-      ∙ ap₂ (λ (a b : ℕ). a + b) six-words (length-append bits (ones ++ zeros) ∙ ap (λ (x : ℕ). length bits + x) (length-append ones zeros))
-
   -- ---- what the header gives
-
-  ends : 6 + (length bits + (length ones + length zeros)) ≡ endIn I
-  unfolding image
-  ends =
-      let a = length-bits in
-      let b = length-ones in
-      let d = length-zeros in
-      let e = ap (λ (x : Bool). cond x (indexLen (highLen u n - length T) (cond c (spilled (highPositions u n false T)) 0)) 0) (image-ranked u n c T) in
-      omega arith
 
   pub headed : Headed I
   unfolding image
   headed = record {
-    six = let l = length-image in omega arith;
+    six = let l = image-length in omega arith;
     counts = record { some = f .some; most = f .most; few = f .few; choice = flag-le c };
     complete = record {
       none = λ (e : ranked I ≡ false). none-picked c (spilled (highPositions u n false T)) (sym (image-ranked u n c T) ∙ e);
-      long = length-image ∙ ends;
+      long = image-length ∙ ap (λ (x : Bool). imageLen u n (length T) x (spilled (highPositions u n true T)) (cond c (spilled (highPositions u n false T)) 0)) (sym (image-ranked u n c T));
     };
   }
 

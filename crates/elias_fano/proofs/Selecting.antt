@@ -28,6 +28,7 @@ use Rattle.elias_fano_words.proofs.Bounds as bounds
 use Rattle.elias_fano_words.proofs.Decode.{select-high, low-words}
 use Rattle.elias_fano_words.proofs.Ones.{placeOf}
 use Rattle.elias_fano_words.proofs.Rising.{rising-lt}
+use Rattle.elias_fano_words.proofs.Lengths as lengths
 use Rattle.elias_fano.specs.declared.image.Parts.{Parts}
 use Rattle.elias_fano.specs.Accept.{universe, declared, pushed, ranked, times, accepted, partsBy, partsOf}
 use Rattle.elias_fano.specs.Ask.{Select, nth, ask, asked}
@@ -95,7 +96,7 @@ module _ (i : List ℕ) (ok : accepted i ≡ true) (p : Parts) (ep : p ≡ parts
         ok = v .0;
         short = v .1;
         is = standing.ones-part i p ep (f .head) ∙ f .indexed .ones ∙ (λ x. indexWords (positions true (sym (standing.high-part i p ep (f .head)) x) (sym high-len-is x)));
-        number = pushed-is ∙ sym (parts.ones-many u n T (images.is-fit i ok .rises) (images.is-fit i ok .few)) ∙ (λ x. length (positions true (sym high-is x) (sym high-len-is x)));
+        number = pushed-is ∙ sym (lengths.ones-many u n T (images.is-fit i ok .rises) (images.is-fit i ok .few)) ∙ (λ x. length (positions true (sym high-is x) (sym high-len-is x)));
         rule = rule;
       }
 

@@ -17,7 +17,7 @@ use Rattle.elias_fano_words.specs.Sizes.{lowLen, highLen}
 use Rattle.elias_fano_words.specs.Times.{rising}
 use Rattle.elias_fano_words.proofs.Decode.{select-high, count-high}
 use Rattle.elias_fano_words.proofs.Ones.{placeOf}
-use Rattle.elias_fano.proofs.Parts.{ones-many}
+use Rattle.elias_fano_words.proofs.Lengths.{ones-many}
 
 module _ (u n : ℕ) (T : List ℕ) (r : rising u 0 T ≡ true) (few : length T ≤ n) where
   abbrev P : List ℕ

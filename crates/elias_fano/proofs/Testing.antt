@@ -5,7 +5,8 @@ use mathlib.Core.Bool.{Bool, true, false, _&&_, cond}
 use Prim.Native.Nat.{ℕ, _-_, _*_, _≤_, _<_}
 use native.Mathlib.Nat.{le-refl, mul-le-mul}
 use native.Mathlib.Omega.{arith}
-use lib.Dec.{eqb}
+use borrow.Author.Tests.{leb-true, leb-false}
+use lib.Dec.{eqb, leb}
 use lib.ListN.{length, take, drop, length-drop}
 use lib.Seq.{length-take-le}
 use Rattle.errors.specs.Answer.{Answer, done, refused}
@@ -20,11 +21,8 @@ use Rattle.elias_fano_words.specs.declared.sizes.Sizes.{Sizes}
 use Rattle.elias_fano.specs.declared.builder.Builder.{Builder}
 use Rattle.elias_fano.specs.declared.builder.Tested.{Tested}
 use Rattle.elias_fano.specs.declared.builder.Tested.the-variants as tested
-use Rattle.elias_fano.specs.declared.builder.TestedBuild.{TestedBuild}
-use Rattle.elias_fano.specs.declared.builder.TestedBuild.the-variants as tested-build
-use Rattle.elias_fano.specs.declared.finish.Plan.{Plan}
 use Rattle.elias_fano.specs.Finishing.{Holding, Finishable}
-use Rattle.elias_fano.specs.Steps.{newTest, builderTest, timeTest, pushTest, heldWords, heldTimes, intact, imageTest, buildTest}
+use Rattle.elias_fano.specs.Steps.{newTest, builderTest, timeTest, pushTest, heldWords, heldTimes, intact, imageOf, imageTest, buildTest}
 use Rattle.elias_fano.specs.Testing.{Startable, TestsNew, Roomy, TestsBuilder, Fileable, TestsPush, TestsBuild}
 use Rattle.elias_fano.proofs.Cases as cases
 
@@ -51,11 +49,11 @@ module _ (b : Builder) (t k : ℕ) (r : Tested) (h : TestsPush b t k r) where
   pub refused-push : (x : Refusal) → r ≡ tested.Refused x → pushTest b t k ≡ refused (numberOf x)
   refused-push x e = subst (TestsPush b t k) e h
 
-module _ (b : Builder) (c : Bool) (w : List ℕ) (r : TestedBuild) (h : TestsBuild b c w r) where
-  pub passed-build : (p : Plan) → r ≡ tested-build.Passed p → Finishable b c p w × (p .end ≤ length w)
-  passed-build p e = subst (TestsBuild b c w) e h
+module _ (b : Builder) (c : Bool) (w : List ℕ) (r : Tested) (h : TestsBuild b c w r) where
+  pub passed-build : (s : Sizes) → r ≡ tested.Passed s → Finishable b c s w
+  passed-build s e = subst (TestsBuild b c w) e h
 
-  pub refused-build : (x : Refusal) → r ≡ tested-build.Refused x → buildTest b c w ≡ refused (numberOf x)
+  pub refused-build : (x : Refusal) → r ≡ tested.Refused x → buildTest b c w ≡ refused (numberOf x)
   refused-build x e = subst (TestsBuild b c w) e h
 
 -- ---- nothing stands against a call
@@ -74,10 +72,10 @@ module _ (b : Builder) (k : ℕ) (s : Sizes) (r : Roomy b k s) where
 pub nothing-against-push : (b : Builder) (t k : ℕ) (s : Sizes) → Fileable b t k s → pushTest b t k ≡ done
 nothing-against-push b t k s h = others b k s (h .roomy) (timeTest b t) ∙ cases.time-passed b t (h .after) (h .below) (h .more)
 
-pub nothing-against-build : (b : Builder) (c : Bool) (w : List ℕ) (p : Plan) → Finishable b c p w → p .end ≤ length w → buildTest b c w ≡ done
-nothing-against-build b c w p f room =
+pub nothing-against-build : (b : Builder) (c : Bool) (w : List ℕ) (s : Sizes) → Finishable b c s w → buildTest b c w ≡ done
+nothing-against-build b c w s f =
     cases.builder-passed b (length w) (imageTest b c w) (f .holding .is-sound) (f .holding .long)
-    ∙ cases.image-passed b c w (f .holding .is-intact) (subst (λ (k : ℕ). k ≤ length w) (f .long) room)
+    ∙ cases.image-passed b c w (f .holding .is-intact) (f .room)
 
 -- ---- what a check of the bits says
 
@@ -157,12 +155,15 @@ module _ (b : Builder) (w : List ℕ) (s : Sizes) (y : Roomy b (length w) s) whe
     unfolding intact
     is-wrong d = wrong-by (holds u n m (heldWords b w)) (lastOf (heldTimes b w)) (b .last) (sym d ∙ checks)
 
-  pub plannable : intact b w ≡ true → Holding b w × (s .«low_len» ≡ lowLen u n) × (s .«high_len» ≡ highLen u n)
-  plannable ok = (record { is-sound = y .is-sound; long = y .long; is-intact = ok }, low-is, high-is)
+  pub is-holding : intact b w ≡ true → Holding b w
+  is-holding ok = record { is-sound = y .is-sound; long = y .long; is-intact = ok }
 
   pub bits-refused : (c : Bool) → intact b w ≡ false → buildTest b c w ≡ refused 7
   bits-refused c e = others b (length w) s y (imageTest b c w) ∙ cases.image-7 b c w e
 
-  pub image-refused : (c : Bool) (p : Plan) → Finishable b c p w → length w < p .end → buildTest b c w ≡ refused 3
-  image-refused c p f short =
-      others b (length w) s y (imageTest b c w) ∙ cases.image-3 b c w (f .holding .is-intact) (subst (λ (k : ℕ). length w < k) (f .long) short)
+  module _ (c r : Bool) (ok : intact b w ≡ true) (e : r ≡ leb (length (imageOf b c w)) (length w)) where
+    pub image-refused : r ≡ false → buildTest b c w ≡ refused 3
+    image-refused d = others b (length w) s y (imageTest b c w) ∙ cases.image-3 b c w ok (leb-false (length (imageOf b c w)) (length w) (sym e ∙ d))
+
+    pub finishable : r ≡ true → Finishable b c s w
+    finishable d = record { holding = is-holding ok; sizes = y .sizes; room = leb-true (length (imageOf b c w)) (length w) (sym e ∙ d) }

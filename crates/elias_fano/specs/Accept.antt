@@ -2,14 +2,14 @@
 -- Assumes nothing.
 use mathlib.Core.List.{List}
 use mathlib.Core.Bool.{Bool, false, _&&_, cond}
-use Prim.Native.Nat.{ℕ, _+_, _*_, _/_, _^_}
+use Prim.Native.Nat.{ℕ, _+_, _*_, _^_}
 use lib.Dec.{eqb, leb, ltb}
 use lib.ListN.{length, getD, drop}
 use Rattle.errors.specs.Answer.{Answer, value, none, refused}
 use Rattle.errors.specs.Refusal.{numberOf}
 use Rattle.bit_words.specs.Vector.{wordsFor}
 use Rattle.darray.specs.Queries.{same}
-use Rattle.elias_fano_words.specs.Sizes.{lowLen, highLen, lowAt}
+use Rattle.elias_fano_words.specs.Sizes.{lowLen, highLen, lowAt, indexLen}
 use Rattle.elias_fano_words.specs.Image.{image}
 use Rattle.elias_fano_words.specs.Times.{rising, unrepeatedIf, timesIn}
 use Rattle.elias_fano.specs.declared.image.Parts.{Parts}
@@ -51,10 +51,6 @@ abbrev pub acceptedIf : Bool → List ℕ → Bool
 acceptedIf strict i = unrepeatedIf strict (times i) && accepted i
 
 -- ---- where its parts stand
-
--- the words of an index over k positions, of which `over` are in the overflow list
-abbrev pub indexLen : ℕ → ℕ → ℕ
-indexLen k over = (k + 1023) / 1024 + ((k + 31) / 32 + 3) / 4 + over
 
 abbrev pub onesAt : ℕ → ℕ → ℕ → ℕ
 onesAt u n m = lowAt u n + wordsFor (m * lowLen u n)

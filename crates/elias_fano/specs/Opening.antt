@@ -9,11 +9,11 @@ use Rattle.broadword.specs.declared.Found.the-variants.{At}
 use Rattle.bit_words.specs.Vector.{wordsFor, bitOver}
 use Rattle.darray_positions.specs.Index.{indexWords}
 use Rattle.darray_positions.specs.Positions.{positions}
-use Rattle.elias_fano_words.specs.Sizes.{lowLen, highLen}
+use Rattle.elias_fano_words.specs.Sizes.{lowLen, highLen, imageLen}
 use Rattle.elias_fano.specs.declared.image.Header.{Header}
 use Rattle.elias_fano.specs.declared.image.Header.the-variants as head
 use Rattle.elias_fano.specs.declared.image.Parts.{Parts}
-use Rattle.elias_fano.specs.Accept.{universe, declared, pushed, ranked, accepted, indexLen, onesAt, zerosAt, partsOf}
+use Rattle.elias_fano.specs.Accept.{universe, declared, pushed, ranked, accepted, onesAt, zerosAt, partsOf}
 
 -- the high length
 abbrev pub highOf : List ℕ → ℕ
@@ -28,7 +28,7 @@ zerosIn i = zerosAt (universe i) (declared i) (pushed i) (getD i 4 0)
 
 -- the length that the header gives
 abbrev pub endIn : List ℕ → ℕ
-endIn i = zerosIn i + cond (ranked i) (indexLen (highOf i - pushed i) (getD i 5 0)) 0
+endIn i = imageLen (universe i) (declared i) (pushed i) (ranked i) (getD i 4 0) (getD i 5 0)
 
 -- a declared count, a number of times and a choice in their limits
 pub record Counts (n m c : ℕ) : Type 0 where

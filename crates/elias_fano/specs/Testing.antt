@@ -4,7 +4,6 @@ use mathlib.Core.Path.{_≡_}
 use mathlib.Core.List.{List}
 use mathlib.Core.Bool.{Bool, true}
 use Prim.Native.Nat.{ℕ, _≤_, _<_}
-use lib.ListN.{length}
 use Rattle.errors.specs.Answer.{Answer, refused}
 use Rattle.errors.specs.Refusal.{numberOf}
 use Rattle.elias_fano_words.specs.Sizes.{startLen, sizesOf}
@@ -12,8 +11,6 @@ use Rattle.elias_fano_words.specs.declared.sizes.Sizes.{Sizes}
 use Rattle.elias_fano.specs.declared.builder.Builder.{Builder}
 use Rattle.elias_fano.specs.declared.builder.Tested.{Tested}
 use Rattle.elias_fano.specs.declared.builder.Tested.the-variants as test
-use Rattle.elias_fano.specs.declared.builder.TestedBuild.{TestedBuild}
-use Rattle.elias_fano.specs.declared.builder.TestedBuild.the-variants as test-build
 use Rattle.elias_fano.specs.Finishing.{Finishable}
 use Rattle.elias_fano.specs.Steps.{newTest, sound, builderTest, pushTest, buildTest}
 
@@ -50,7 +47,7 @@ abbrev pub TestsPush : Builder → ℕ → ℕ → Tested → Type 0
 TestsPush b t k (test.Passed s) = Fileable b t k s
 TestsPush b t k (test.Refused e) = pushTest b t k ≡ refused (numberOf e)
 
--- nothing stands against a finish, and the plan is that of its image
-abbrev pub TestsBuild : Builder → Bool → List ℕ → TestedBuild → Type 0
-TestsBuild b c w (test-build.Passed p) = Finishable b c p w × (p .end ≤ length w)
-TestsBuild b c w (test-build.Refused e) = buildTest b c w ≡ refused (numberOf e)
+-- nothing stands against a finish
+abbrev pub TestsBuild : Builder → Bool → List ℕ → Tested → Type 0
+TestsBuild b c w (test.Passed s) = Finishable b c s w
+TestsBuild b c w (test.Refused e) = buildTest b c w ≡ refused (numberOf e)

@@ -7,8 +7,7 @@ ghost use lib.ListN.{length};
 ghost use Rattle.elias_fano.specs.Made.{nobody, ofPushed, ofBuilt};
 ghost use Rattle.elias_fano.specs.Steps.{newOf, sound, filed, pushOf, intact, buildOf};
 ghost use Rattle.elias_fano.specs.Testing.{TestsNew, Roomy, TestsBuilder, Fileable, TestsPush, TestsBuild};
-use crate::finish::Plan;
-use crate::finish::plan_image;
+use crate::finish::has_room;
 use crate::finish::write_image;
 use bit_words::WORD_LEN;
 use bit_words::fill;
@@ -41,15 +40,9 @@ pub enum Built {
     Refused(Refusal),
 }
 
-// What the tests of a start or of a reading find: the sizes of the record, or a refusal.
+// What the tests of a call find: the sizes of the record, or a refusal.
 enum Tested {
     Passed(Sizes),
-    Refused(Refusal),
-}
-
-// What the tests of a finish find: the plan of the image, or a refusal.
-enum TestedBuild {
-    Passed(Plan),
     Refused(Refusal),
 }
 
@@ -94,11 +87,8 @@ pub fn build(b: Builder, rank: bool, buffer: &mut [u64]) -> Built
     ensures { λ r. ⌜ ofBuilt b r (now (buffer .exit)) ≡ buildOf b rank (now (buffer .entry)) ⌝ }
 {
     match test_build(b, rank, &*buffer) {
-        TestedBuild::Passed(p) => {
-            write_image(&mut *buffer, b, rank, p);
-            Built::Words(p.end)
-        }
-        TestedBuild::Refused(e) => Built::Refused(e),
+        Tested::Passed(s) => Built::Words(write_image(&mut *buffer, b, rank, s)),
+        Tested::Refused(e) => Built::Refused(e),
     }
 }
 
@@ -217,26 +207,25 @@ fn is_intact(b: Builder, s: Sizes, words: &[u64]) -> bool
 }
 
 // The tests of the words, and of the length of the image that they become.
-fn test_image(b: Builder, rank: bool, s: Sizes, words: &[u64]) -> TestedBuild
+fn test_image(b: Builder, rank: bool, s: Sizes, words: &[u64]) -> Tested
     requires { ⌜ Roomy b (length (now words)) s ⌝ }
     ensures { λ r. ⌜ TestsBuild b rank (now (words .entry)) r ⌝ }
 {
     if !is_intact(b, s, words) {
-        return TestedBuild::Refused(Refusal::Invalid);
+        return Tested::Refused(Refusal::Invalid);
     }
-    let p = plan_image(words, b, rank, s.low_len, s.high_len);
-    if words.len() < p.end {
-        return TestedBuild::Refused(Refusal::ShortBuffer);
+    if !has_room(words, b, rank, s) {
+        return Tested::Refused(Refusal::ShortBuffer);
     }
-    TestedBuild::Passed(p)
+    Tested::Passed(s)
 }
 
 // The tests of a finish.
-fn test_build(b: Builder, rank: bool, words: &[u64]) -> TestedBuild
+fn test_build(b: Builder, rank: bool, words: &[u64]) -> Tested
     ensures { λ r. ⌜ TestsBuild b rank (now (words .entry)) r ⌝ }
 {
     match test_builder(b, words.len()) {
         Tested::Passed(s) => test_image(b, rank, s, words),
-        Tested::Refused(e) => TestedBuild::Refused(e),
+        Tested::Refused(e) => Tested::Refused(e),
     }
 }

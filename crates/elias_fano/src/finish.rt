@@ -1,102 +1,74 @@
-// Finishing a record: its image is planned, and then written over the words that hold its bits. These are inner: they demand bits that
-// hold nothing but times in order. The bits stay where they stand; the indexes follow the low words, of as many values as were pushed.
+// Finishing a record: its image is written over the words that hold its bits. These are inner: they demand bits that
+// hold nothing but times in order. The bits stay where they stand; the indexes follow the low words, of as many values as were pushed, and the header is written last.
+//
+// Each index is written in one pass. Only in words below the limit of the settings (document 02 (vii)) the overflow of both is counted before, since a call that is
+// refused writes nothing.
 ghost use mathlib.Core.Path.{_≡_};
-ghost use mathlib.Core.List.{[], _∷_, _++_};
-ghost use Prim.Native.Nat.{_+_, _-_, _^_, _≤_, _<_};
+ghost use mathlib.Core.Bool.{true, false, cond};
+ghost use mathlib.Core.List.{_∷_, _++_};
+ghost use Prim.Native.Nat.{_+_, _-_, _≤_};
+ghost use lib.Dec.{leb};
 ghost use lib.ListN.{length, take, drop};
 ghost use Rattle.broadword.specs.Fields.{flag};
 ghost use Rattle.bit_words.specs.Vector.{wordsFor};
+ghost use Rattle.darray_positions.specs.Index.{blocks, before};
 ghost use Rattle.darray_positions.specs.Positions.{positions};
-ghost use Rattle.darray.specs.Sizes.{Sized, Writable};
-ghost use Rattle.elias_fano_words.specs.Sizes.{lowLen, highLen};
-ghost use Rattle.elias_fano.specs.Finishing.{Measurable, zerosOf, zerosWords, Short, planBy, Planned, Holding, Finishable};
-ghost use Rattle.elias_fano.specs.Steps.{finishedWords};
+ghost use Rattle.darray.specs.Sizes.{sizesBy, Writable};
+ghost use Rattle.elias_fano_words.specs.Sizes.{sizesOf};
+ghost use Rattle.elias_fano.specs.Finishing.{Measurable, zerosWords, Holding, Finishable};
+ghost use Rattle.elias_fano.specs.Steps.{imageOf, finishedWords};
 use crate::builder::Builder;
 use bit_words::words_for;
 use darray::inner::Measured;
-use darray::inner::Sizes;
 use darray::inner::measure;
-use darray::inner::total;
 use darray::inner::write_within;
+use elias_fano_words::sizes::Sizes;
+use elias_fano_words::sizes::image_len;
+use elias_fano_words::sizes::index_len;
+use elias_fano_words::sizes::limit_of;
 
-// The sizes of the indexes over the ones and the zeros of so many high bits, where they begin, and where the image ends.
-pub struct Plan {
-    pub ones: Sizes,
-    pub zeros: Sizes,
-    pub high_len: usize,
-    pub ones_at: usize,
-    pub zeros_at: usize,
-    pub end: usize,
-}
-
-// The sizes of the index of no positions.
-pub fn no_sizes() -> Sizes
-    ensures { λ r. ⌜ Sized [] r ⌝ }
-{
-    Sizes {
-        positions: 0,
-        entries: 0,
-        lanes: 0,
-        overflow: 0,
-    }
-}
-
-// The sizes of the index over the ones or the zeros.
-fn sizes_over(words: &[u64], len: usize, over_one: bool) -> Sizes
+// How many of the ones or the zeros go to the overflow of their index.
+fn overflow_over(words: &[u64], len: usize, over_one: bool) -> usize
     requires { ⌜ Measurable (now words) len ⌝ }
-    ensures { λ r. ⌜ Sized (positions «over_one» (now (words .entry)) len) r ⌝ }
+    ensures { λ r. ⌜ r ≡ before (positions «over_one» (now (words .entry)) len) (blocks (positions «over_one» (now (words .entry)) len)) ⌝ }
 {
     match measure(words, len, over_one) {
-        Measured::Sizes(s) => s,
-        Measured::Refused(_) => no_sizes(),
+        Measured::Sizes(s) => s.overflow,
+        Measured::Refused(_) => 0,
     }
 }
 
-// The sizes of the index over the zeros, if there is to be one.
-fn zeros_sizes(words: &[u64], len: usize, rank: bool) -> Sizes
+// How many of the zeros do, if there is to be an index over them.
+fn zeros_overflow(words: &[u64], len: usize, rank: bool) -> usize
     requires { ⌜ Measurable (now words) len ⌝ }
-    ensures { λ r. ⌜ Sized (zerosOf rank (now (words .entry)) len) r ⌝ }
+    ensures { λ r. ⌜ r ≡ cond rank (before (positions false (now (words .entry)) len) (blocks (positions false (now (words .entry)) len))) 0 ⌝ }
 {
     if rank {
-        return sizes_over(words, len, false);
+        return overflow_over(words, len, false);
     }
-    no_sizes()
+    0
 }
 
-// The plan of indexes of these sizes over len high bits, the first of which is to begin at the place `at`.
-pub fn plan_by(ones: Sizes, zeros: Sizes, len: usize, at: usize) -> Plan
-    requires { ⌜ (Short ones × Short zeros × (at < 2 ^ 32)) ⌝ }
-    ensures { λ r. ⌜ r ≡ planBy ones zeros len at ⌝ }
+// How many words the image has of the values that the words hold.
+fn measured_len(words: &[u64], b: Builder, rank: bool, s: Sizes) -> usize
+    requires { ⌜ (Holding b (now words) × (s ≡ sizesOf (b .universe) (b .«num_vals»))) ⌝ }
+    ensures { λ r. ⌜ r ≡ length (imageOf b rank (now (words .entry))) ⌝ }
 {
-    let zeros_at = at + total(ones);
-    Plan {
-        ones,
-        zeros,
-        high_len: len,
-        ones_at: at,
-        zeros_at,
-        end: zeros_at + total(zeros),
+    let low_at = s.low_at;
+    let ones = overflow_over(&words[6..low_at], s.high_len, true);
+    let zeros = zeros_overflow(&words[6..low_at], s.high_len, rank);
+    image_len(s, b.num_pushed as usize, rank, ones, zeros)
+}
+
+// Whether that image has room in the words. Where they are as many as the limit, nothing is measured.
+pub fn has_room(words: &[u64], b: Builder, rank: bool, s: Sizes) -> bool
+    requires { ⌜ (Holding b (now words) × (s ≡ sizesOf (b .universe) (b .«num_vals»))) ⌝ }
+    ensures { λ r. ⌜ r ≡ leb (length (imageOf b rank (now (words .entry)))) (length (now (words .entry))) ⌝ }
+{
+    if limit_of(s, b.num_vals as usize, rank) <= words.len() {
+        return true;
     }
-}
-
-// The plan of the indexes over the high bits.
-fn plan_indexes(high: &[u64], len: usize, rank: bool, at: usize) -> Plan
-    requires { ⌜ (Measurable (now high) len × (at < 2 ^ 32)) ⌝ }
-    ensures { λ r. ⌜ Planned rank (now (high .entry)) len at r ⌝ }
-{
-    let ones = sizes_over(high, len, true);
-    let zeros = zeros_sizes(high, len, rank);
-    plan_by(ones, zeros, len, at)
-}
-
-// The plan of the image of the times that the words hold.
-pub fn plan_image(words: &[u64], b: Builder, rank: bool, low_len: usize, high_len: usize) -> Plan
-    requires { ⌜ (Holding b (now words) × («low_len» ≡ lowLen (b .universe) (b .«num_vals»)) × («high_len» ≡ highLen (b .universe) (b .«num_vals»))) ⌝ }
-    ensures { λ r. ⌜ Finishable b rank r (now (words .entry)) ⌝ }
-{
-    let low_at = 6 + words_for(high_len);
-    let ones_at = low_at + words_for(b.num_pushed as usize * low_len);
-    plan_indexes(&words[6..low_at], high_len, rank, ones_at)
+    measured_len(words, b, rank, s) <= words.len()
 }
 
 // Writes the six words of the header.
@@ -112,25 +84,28 @@ fn write_header(buffer: &mut [u64], b: Builder, rank: bool, ones: usize, zeros: 
     buffer[5] = zeros as u64;
 }
 
-// Writes the index over the zeros of the high bits, if there is to be one.
-fn write_zeros(buffer: &mut [u64], len: usize, rank: bool, s: Sizes, at: usize)
-    requires { ⌜ ((6 + wordsFor len ≤ at) × (at ≤ length (now buffer)) × Writable (zerosOf rank (take (wordsFor len) (drop 6 (now buffer))) len) len (length (take (wordsFor len) (drop 6 (now buffer)))) s (length (now buffer) - at)) ⌝ }
-    ensures { λ _. ⌜ now (buffer .exit) ≡ take at (now (buffer .entry)) ++ (zerosWords rank (take (wordsFor len) (drop 6 (now (buffer .entry)))) len ++ drop (length (zerosWords rank (take (wordsFor len) (drop 6 (now (buffer .entry)))) len)) (drop at (now (buffer .entry)))) ⌝ }
+// Writes the index over the n zeros of the high bits, if there is to be one. How many of them are in its overflow list comes back.
+fn write_zeros(buffer: &mut [u64], len: usize, rank: bool, n: usize, at: usize) -> usize
+    requires { ⌜ ((6 + wordsFor len ≤ at) × (at ≤ length (now buffer)) × (rank ≡ true → Writable (positions false (take (wordsFor len) (drop 6 (now buffer))) len) len (length (take (wordsFor len) (drop 6 (now buffer)))) (sizesBy n 0) (length (now buffer) - at))) ⌝ }
+    ensures { λ r. ⌜ ((now (buffer .exit) ≡ take at (now (buffer .entry)) ++ (zerosWords rank (take (wordsFor len) (drop 6 (now (buffer .entry)))) len ++ drop (length (zerosWords rank (take (wordsFor len) (drop 6 (now (buffer .entry)))) len)) (drop at (now (buffer .entry))))) × (r ≡ cond rank (before (positions false (take (wordsFor len) (drop 6 (now (buffer .entry)))) len) (blocks (positions false (take (wordsFor len) (drop 6 (now (buffer .entry)))) len))) 0)) ⌝ }
 {
     if !rank {
-        return;
+        return 0;
     }
-    write_within(&mut *buffer, 6, len, false, s, at);
+    write_within(&mut *buffer, 6, len, false, n, at)
 }
 
-// Writes the image of the times that the words hold. They become it: the bits stay where they stand.
-pub fn write_image(buffer: &mut [u64], b: Builder, rank: bool, p: Plan)
-    requires { ⌜ (Finishable b rank p (now buffer) × (p .end ≤ length (now buffer))) ⌝ }
-    ensures { λ _. ⌜ now (buffer .exit) ≡ finishedWords b rank (now (buffer .entry)) ⌝ }
+// Writes the image of the times that the words hold. They become it: the bits stay where they stand. How many words it has comes back.
+pub fn write_image(buffer: &mut [u64], b: Builder, rank: bool, s: Sizes) -> usize
+    requires { ⌜ Finishable b rank s (now buffer) ⌝ }
+    ensures { λ r. ⌜ ((now (buffer .exit) ≡ finishedWords b rank (now (buffer .entry))) × (r ≡ length (imageOf b rank (now (buffer .entry))))) ⌝ }
 {
-    let ones = p.ones;
-    let zeros = p.zeros;
-    write_header(&mut *buffer, b, rank, ones.overflow, zeros.overflow);
-    write_within(&mut *buffer, 6, p.high_len, true, ones, p.ones_at);
-    write_zeros(&mut *buffer, p.high_len, rank, zeros, p.zeros_at);
+    let m = b.num_pushed as usize;
+    let len = s.high_len;
+    let ones_at = s.low_at + words_for(m * s.low_len);
+    let ones = write_within(&mut *buffer, 6, len, true, m, ones_at);
+    let zeros_at = ones_at + index_len(m, ones);
+    let zeros = write_zeros(&mut *buffer, len, rank, len - m, zeros_at);
+    write_header(&mut *buffer, b, rank, ones, zeros);
+    image_len(s, m, rank, ones, zeros)
 }

@@ -4,8 +4,9 @@ ghost use mathlib.Core.Path.{_≡_};
 ghost use Prim.Native.Nat.{_-_, _^_, _≤_, _<_};
 ghost use lib.ListN.{getD};
 ghost use Rattle.darray.specs.Pending.{Decides};
+ghost use Rattle.elias_fano_words.specs.Sizes.{indexLen};
 ghost use Rattle.elias_fano_words.specs.Times.{holds, holdsIf};
-ghost use Rattle.elias_fano.specs.Accept.{universe as universeOf, declared, pushed, indexLen, partsBy, partsOf, noParts, times, ofOpened, openIf, openOf, ofValue};
+ghost use Rattle.elias_fano.specs.Accept.{universe as universeOf, declared, pushed, partsBy, partsOf, noParts, times, ofOpened, openIf, openOf, ofValue};
 ghost use Rattle.elias_fano.specs.Ask.{Select, asked, query};
 ghost use Rattle.elias_fano.specs.Opening.{Counts, Limits, Complete, Headed, Heads, bitsIn, Indexes, Open, OneAt};
 use bit_words::words_for;
@@ -16,6 +17,8 @@ use elias_fano_words::check::Checked;
 use elias_fano_words::check::check;
 use elias_fano_words::check::low_at;
 use elias_fano_words::sizes::MAX_VALS;
+use elias_fano_words::sizes::index_len;
+use elias_fano_words::sizes::index_len_if;
 use elias_fano_words::sizes::of_record;
 use errors::Refusal;
 
@@ -58,14 +61,6 @@ pub enum Value {
 enum Header {
     Parts(Parts),
     Wrong,
-}
-
-// How many words an index over so many positions has, of which `overflow` are in the overflow list.
-fn index_len(positions: usize, overflow: usize) -> usize
-    requires { ⌜ ((positions < 2 ^ 32) × (overflow < 2 ^ 62)) ⌝ }
-    ensures { λ r. ⌜ r ≡ indexLen positions overflow ⌝ }
-{
-    (positions + 1023) / 1024 + ((positions + 31) / 32 + 3) / 4 + overflow
 }
 
 // Where the parts stand, by the numbers of a header in their limits.
@@ -112,10 +107,7 @@ fn zeros_len(p: Parts, overflow: usize) -> usize
     requires { ⌜ ((p .«high_len» < 2 ^ 32) × (p .«num_pushed» ≤ p .«high_len») × (overflow < 2 ^ 62)) ⌝ }
     ensures { λ r. ⌜ r ≡ cond (p .rank) (indexLen (p .«high_len» - p .«num_pushed») overflow) 0 ⌝ }
 {
-    if p.rank {
-        return index_len(p.high_len - p.num_pushed as usize, overflow);
-    }
-    0
+    index_len_if(p.rank, p.high_len - p.num_pushed as usize, overflow)
 }
 
 // Whether the counts of a header and its choice of a rank index are in their limits.

@@ -6,6 +6,8 @@ pub mod Encode
 pub mod Highest
 pub mod Holds
 pub mod LastTime
+pub mod Lengths
+pub mod Limit
 pub mod Marks
 pub mod Ones
 pub mod Ordering

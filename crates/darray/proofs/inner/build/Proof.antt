@@ -44,7 +44,9 @@ write-requires : tie.Need-write-requires
 write-requires c κs =
     let a = c .before .before .before .before .before .before .before .before .before .args in
     record {
-      sized = c .before .before .before .sizes-of .ensures;
+      positions = c .before .before .before .sizes-of .ensures .positions;
+      entries = c .before .before .before .sizes-of .ensures .entries;
+      lanes = c .before .before .before .sizes-of .ensures .lanes;
       words = valid _ _ (sym (c .before .before .before .before .before .before .is-invalid .ensures) ∙ c .before .before .before .before .before .if1 .left) .room;
       few = c .before .before .before .before .if2 .left;
       room = subst (λ (n : ℕ). n ≤ length (a .out .now)) (total (c .before .before)) (c .before .if3 .left);

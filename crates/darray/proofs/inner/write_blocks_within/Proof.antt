@@ -2,7 +2,7 @@
 -- those before it and past it are as they were.
 -- Assumes nothing.
 use borrow.Author.Needs.{needs}
-use mathlib.Core.Path.{refl, ap, _∙_}
+use mathlib.Core.Path.{_≡_, refl, ap, _∙_}
 use Prim.Native.Nat.{ℕ, _+_, _-_, _≤_}
 use native.Mathlib.Omega.{arith}
 use lib.ListN.{length, take, drop, length-replicate}
@@ -112,7 +112,11 @@ returns c =
     let s = c .before .before .before .before .before in
     let a = s .args in
     let l = c .before .loop in
-    writing.writing-all (a .over-one) (take (wordsFor (a .len)) (drop (a .first) (a .buf .now))) (a .len) (a .buf .now) (a .at) (a .s) (s .pre .3) (s .pre .4) (l .buf) (l .p .positions) (l .from) (l .over) (l .j) (l .inv .1) (omega (arith, l .inv .0, c .loop-test .left))
+    let w = take (wordsFor (a .len)) (drop (a .first) (a .buf .now)) in
+    let e : l .j ≡ a .s .entries = omega (arith, l .inv .0, c .loop-test .left) in (
+      writing.writing-all (a .over-one) w (a .len) (a .buf .now) (a .at) (a .s) (s .pre .3) (s .pre .4) (l .buf) (l .p .positions) (l .from) (l .over) (l .j) (l .inv .1) e,
+      writing.spilled-all (a .over-one) w (a .len) (a .buf .now) (a .at) (a .s) (s .pre .3) (s .pre .4) (l .buf) (l .p .positions) (l .from) (l .over) (l .j) (l .inv .1) e,
+    )
 
 pub write-blocks-within-spec : {M : Type 1} → statement M
 write-blocks-within-spec =

@@ -14,11 +14,11 @@ use Rattle.elias_fano.proofs.builder.build.Tie as tie
 test-build-requires : tie.Need-test-build-requires
 test-build-requires c κs = search needs
 
-enum-known-p : tie.Need-enum-known-p
-enum-known-p c = search needs
+enum-known-s : tie.Need-enum-known-s
+enum-known-s c = search needs
 
 write-image-requires : tie.Need-write-image-requires
-write-image-requires c κs = testing.passed-build _ _ _ _ (c .before .before .before .before .test-build .ensures) _ (c .before .before .p .given .1)
+write-image-requires c κs = testing.passed-build _ _ _ _ (c .before .before .before .before .test-build .ensures) _ (c .before .before .s .given .1)
 
 enum-known-e : tie.Need-enum-known-e
 enum-known-e c = search needs
@@ -29,9 +29,10 @@ same-length c = search needs
 returns : tie.Need-returns
 returns c =
     let s = c .before .before .before .before .before .before .before .before .before .before in
-    let h = testing.passed-build _ _ _ _ (c .before .before .before .before .before .before .before .test-build .ensures) _ (c .before .before .before .before .before .p .given .1) in
-    ap₂ (λ (k : ℕ) (w : List ℕ). made (value k) (s .args .b) w) (h .0 .long) (c .before .before .write-image .ensures)
-    ∙ sym (cases.build-done (s .args .b) (s .args .rank) (s .args .buffer .now) (testing.nothing-against-build _ _ _ _ (h .0) (h .1)))
+    let h = testing.passed-build _ _ _ _ (c .before .before .before .before .before .before .before .test-build .ensures) _ (c .before .before .before .before .before .s .given .1) in
+    let e = c .before .before .write-image .ensures in
+    ap₂ (λ (k : ℕ) (w : List ℕ). made (value k) (s .args .b) w) (e .1) (e .0)
+    ∙ sym (cases.build-done (s .args .b) (s .args .rank) (s .args .buffer .now) (testing.nothing-against-build _ _ _ _ h))
 
 same-length-2 : tie.Need-same-length-2
 same-length-2 c = search needs
@@ -44,7 +45,7 @@ build-spec =
     tie.close
     (tie.spec
     test-build-requires
-    enum-known-p
+    enum-known-s
     write-image-requires
     enum-known-e
     same-length

@@ -13,15 +13,18 @@ is-intact-requires c κs = search needs
 returns : tie.Need-returns
 returns c = let s = c .before .before .before in testing.bits-refused _ (s .args .words .now) _ (s .pre) _ (sym (c .before .is-intact .ensures) ∙ not-true _ (c .if1 .taken))
 
-plan-image-requires : tie.Need-plan-image-requires
-plan-image-requires c κs = let s = c .before .before .before in testing.plannable _ (s .args .words .now) _ (s .pre) (sym (c .before .is-intact .ensures) ∙ not-false _ (c .if1 .left))
+has-room-requires : tie.Need-has-room-requires
+has-room-requires c κs = let s = c .before .before .before in (testing.is-holding _ (s .args .words .now) _ (s .pre) (sym (c .before .is-intact .ensures) ∙ not-false _ (c .if1 .left)), s .pre .sizes)
 
 returns-2 : tie.Need-returns-2
-returns-2 c = let s = c .before .before .before .before .before .before in testing.image-refused _ (s .args .words .now) _ (s .pre) _ _ (c .before .before .plan-image .ensures) (c .if2 .taken)
+returns-2 c =
+    let s = c .before .before .before .before .before in
+    testing.image-refused _ (s .args .words .now) _ (s .pre) (s .args .rank) _ (sym (c .before .before .before .is-intact .ensures) ∙ not-false _ (c .before .before .if1 .left)) (c .before .has-room .ensures) (not-true _ (c .if2 .taken))
 
 returns-3 : tie.Need-returns-3
-returns-3 c = search needs
+returns-3 c =
+    let s = c .before .before .before .before .before in
+    testing.finishable _ (s .args .words .now) _ (s .pre) (s .args .rank) _ (sym (c .before .before .before .is-intact .ensures) ∙ not-false _ (c .before .before .if1 .left)) (c .before .has-room .ensures) (not-false _ (c .if2 .left))
 
 pub test-image-spec : {M : Type 1} → statement M
-test-image-spec =
-    tie.close (tie.spec is-intact-requires returns plan-image-requires returns-2 returns-3)
+test-image-spec = tie.close (tie.spec is-intact-requires returns has-room-requires returns-2 returns-3)

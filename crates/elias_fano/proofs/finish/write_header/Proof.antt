@@ -4,7 +4,7 @@ use borrow.Author.Needs.{needs}
 use Prim.Native.Nat.{_<_}
 use native.Mathlib.Omega.{arith}
 use lib.ListN.{length}
-use Rattle.elias_fano.proofs.Planning as planning
+use Rattle.elias_fano.proofs.Measuring as measuring
 use Rattle.elias_fano.proofs.finish.write_header.Statement.{statement}
 use Rattle.elias_fano.proofs.finish.write_header.Tie as tie
 
@@ -33,7 +33,7 @@ same-length : tie.Need-same-length
 same-length c = search needs
 
 returns : tie.Need-returns
-returns c = let a = c .args in planning.header-set (a .buffer .now) (a .b .universe) (a .b .«num_vals») (a .b .«num_pushed») _ (a .ones) (a .zeros) (c .pre)
+returns c = let a = c .args in measuring.header-set (a .buffer .now) (a .b .universe) (a .b .«num_vals») (a .b .«num_pushed») _ (a .ones) (a .zeros) (c .pre)
 
 pub write-header-spec : {M : Type 1} → statement M
 write-header-spec =
