@@ -17,7 +17,7 @@ use Rattle.darray_positions.proofs.Positions as position
 use Rattle.elias_fano_words.specs.Image.{highWords}
 use Rattle.elias_fano_words.specs.Sizes.{highLen}
 use Rattle.elias_fano_words.proofs.Bounds as bounds
-use Rattle.elias_fano.proofs.Parts as parts
+use Rattle.elias_fano_words.proofs.Lengths as lengths
 use Rattle.elias_fano.proofs.Spilled as spilled
 use Rattle.elias_fano.specs.Ask.{below}
 use Rattle.elias_fano_queries.proofs.Bucket as bucket
@@ -47,10 +47,10 @@ module _ (ws : List ℕ) (len : ℕ) (ok : Countable ws len) where
   -- ---- how many there are
 
   pub ones-many : length (positionsOf ws len true) ≡ length (onesOf ws len)
-  ones-many = parts.ones-many len n T (ones.rises ws len) (le-refl n)
+  ones-many = lengths.ones-many len n T (ones.rises ws len) (le-refl n)
 
   pub zeros-many : length (positionsOf ws len false) ≡ highLen len (length (onesOf ws len)) - length (onesOf ws len)
-  zeros-many = parts.zeros-many len n T (ones.rises ws len) (le-refl n)
+  zeros-many = lengths.zeros-many len n T (ones.rises ws len) (le-refl n)
 
   pub few : (b : Bool) → length (positionsOf ws len b) ≤ 50331649
   unfolding highLen

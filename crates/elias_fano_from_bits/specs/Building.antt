@@ -12,12 +12,10 @@ use Rattle.bit_words.specs.Vector.{bitOver, invalid}
 use Rattle.bit_vectors.specs.Walk.{Walking}
 use Rattle.bit_vectors.specs.declared.unary.Unary.{Unary}
 use Rattle.darray_positions.specs.Index.{pos}
-use Rattle.elias_fano_words.specs.Image.{highWords, highPositions}
-use Rattle.elias_fano_words.specs.Sizes.{lowLen, highLen, startLen, sizesOf}
+use Rattle.elias_fano_words.specs.Image.{highPositions}
+use Rattle.elias_fano_words.specs.Sizes.{lowLen, startLen, sizesOf}
 use Rattle.elias_fano_words.specs.declared.sizes.Sizes.{Sizes}
-use Rattle.elias_fano.specs.Accept.{onesAt}
-use Rattle.elias_fano.specs.Finishing.{Planned, filedIn}
-use Rattle.elias_fano.specs.declared.finish.Plan.{Plan}
+use Rattle.elias_fano.specs.Finishing.{filedIn}
 use Rattle.elias_fano_from_bits.specs.FromBits.{onesOf, bitsImage, onesTest}
 use Rattle.elias_fano_from_bits.specs.declared.measure.Mark.{Mark}
 use Rattle.elias_fano_from_bits.specs.declared.measure.HighPlace.{HighPlace}
@@ -73,11 +71,6 @@ pub record Seen (ws : List ℕ) (len : ℕ) (b : Bool) (l k : ℕ) (r : HighPlac
   pub marked : Marked ws len (r .mark)
   pub upto : Upto b l (r .mark) k
 
--- ---- the plan
-
-abbrev pub Laid : List ℕ → ℕ → Bool → Plan → Type 0
-Laid ws len c p = Planned c (highWords len (length (onesOf ws len)) (onesOf ws len)) (highLen len (length (onesOf ws len))) (onesAt len (length (onesOf ws len)) (length (onesOf ws len))) p
-
 -- the sizes of the record of n ones
 pub record Sizable (ws : List ℕ) (len n : ℕ) (s : Sizes) : Type 0 where
   pub countable : Countable ws len
@@ -114,7 +107,6 @@ filedOnes ws len w = filedIn len (length (onesOf ws len)) (onesOf ws len) w
 -- nothing stands against it, with k words lent
 pub record Ready (ws : List ℕ) (len : ℕ) (c : Bool) (k : ℕ) (j : Job) : Type 0 where
   pub sizable : Sizable ws len (j .ones) (j .sizes)
-  pub laid : Laid ws len c (j .plan)
   pub room : length (bitsImage ws len c) ≤ k
 
 abbrev pub Tests : List ℕ → ℕ → Bool → ℕ → TestedBits → Type 0

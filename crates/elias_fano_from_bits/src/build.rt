@@ -1,22 +1,21 @@
 // Writing the record of a bit vector, whose values are the places of its ones.
 //
-// One pass counts the ones, one for each index finds what goes to its overflow (`measure`), and one files the places. So every refusal is decided before the
-// first word is written.
+// One pass counts the ones, and one files the places. In a buffer below the limit (document 02 (vii)) one for each index finds before what goes to its overflow
+// (`measure`). So every refusal is decided before the first word is written.
 ghost use mathlib.Core.Path.{_≡_};
+ghost use mathlib.Core.Bool.{false, cond};
 ghost use mathlib.Core.List.{_++_};
 ghost use Prim.Native.Nat.{_<_};
+ghost use lib.Dec.{leb};
 ghost use lib.ListN.{length, drop};
 ghost use Rattle.errors.specs.Answer.{leaves, passing};
 ghost use Rattle.broadword.specs.Places.{SelectInByte, Debruijn64};
-ghost use Rattle.darray.specs.Sizes.{Sized};
+ghost use Rattle.darray_positions.specs.Index.{blocks, before};
 ghost use Rattle.elias_fano_words.specs.Times.{lastOf};
-ghost use Rattle.elias_fano.specs.Finishing.{zerosOf};
 ghost use Rattle.elias_fano.specs.Made.{builtAnswer};
-ghost use Rattle.elias_fano_words.specs.Image.{highWords};
-ghost use Rattle.elias_fano_words.specs.Sizes.{highLen};
-ghost use Rattle.elias_fano_from_bits.specs.Building.{Countable, Laid, Sizable, OnesTaken, NextTaken, Writing, Zeroed, filedOnes, Ready, Tests, Counted};
+ghost use Rattle.elias_fano_from_bits.specs.Building.{Countable, positionsOf, Sizable, OnesTaken, NextTaken, Writing, Zeroed, filedOnes, Ready, Tests, Counted};
 ghost use Rattle.elias_fano_from_bits.specs.FromBits.{onesOf, bitsImage, onesTest, bitsWritten, fromBitsOf};
-use crate::measure::sizes_over;
+use crate::measure::overflow_of;
 use bit_vectors::Place;
 use bit_vectors::unary::Unary;
 use bit_vectors::unary::next_within;
@@ -25,25 +24,22 @@ use bit_words::fill;
 use bit_words::is_invalid;
 use broadword::debruijn64_table;
 use broadword::select_in_byte_table;
-use darray::inner::Sizes as IndexSizes;
 use darray_positions::scan::count_positions;
 use elias_fano::builder::Builder;
 use elias_fano::builder::Built;
 use elias_fano::builder::file;
-use elias_fano::finish::Plan;
-use elias_fano::finish::no_sizes;
-use elias_fano::finish::plan_by;
 use elias_fano::finish::write_image;
 use elias_fano_words::sizes::MAX_VALS;
 use elias_fano_words::sizes::Sizes;
+use elias_fano_words::sizes::image_len;
+use elias_fano_words::sizes::limit_of;
 use elias_fano_words::sizes::of_record;
 use errors::Refusal;
 
-// What nothing stands against: how many ones there are, the sizes of their record, and the plan of its image.
+// What nothing stands against: how many ones there are, and the sizes of their record.
 struct Job {
     ones: usize,
     sizes: Sizes,
-    plan: Plan,
 }
 
 // What the tests find.
@@ -58,32 +54,44 @@ struct One {
     rest: Unary,
 }
 
-// The sizes of the index over the zeros, if there is to be one.
-fn zeros_sizes(
+// How many zeros of the high bits go to the overflow, if there is to be an index over them.
+fn zeros_overflow(
     words: &[u64],
     len: usize,
     n: usize,
     s: Sizes,
     rank: bool,
     table: &[u8; 2048],
-) -> IndexSizes
+) -> usize
     requires { ⌜ (Sizable (now words) len n s × SelectInByte (now table)) ⌝ }
-    ensures { λ r. ⌜ Sized (zerosOf rank (highWords len (length (onesOf (now (words .entry)) len)) (onesOf (now (words .entry)) len)) (highLen len (length (onesOf (now (words .entry)) len)))) r ⌝ }
+    ensures { λ r. ⌜ r ≡ cond rank (before (positionsOf (now (words .entry)) len false) (blocks (positionsOf (now (words .entry)) len false))) 0 ⌝ }
 {
     if rank {
-        return sizes_over(words, len, s.low_len, false, s.high_len - n, table);
+        return overflow_of(words, len, s.low_len, false, s.high_len - n, table);
     }
-    no_sizes()
+    0
 }
 
-// The plan of the image.
-fn plan(words: &[u64], len: usize, n: usize, s: Sizes, rank: bool, table: &[u8; 2048]) -> Plan
-    requires { ⌜ (Sizable (now words) len n s × SelectInByte (now table)) ⌝ }
-    ensures { λ r. ⌜ Laid (now (words .entry)) len rank r ⌝ }
+// How many words the image of the places has.
+fn measured_len(words: &[u64], len: usize, n: usize, s: Sizes, rank: bool) -> usize
+    requires { ⌜ Sizable (now words) len n s ⌝ }
+    ensures { λ r. ⌜ r ≡ length (bitsImage (now (words .entry)) len rank) ⌝ }
 {
-    let ones = sizes_over(words, len, s.low_len, true, n, table);
-    let zeros = zeros_sizes(words, len, n, s, rank, table);
-    plan_by(ones, zeros, s.high_len, s.start_len)
+    let table = select_in_byte_table();
+    let ones = overflow_of(words, len, s.low_len, true, n, &table);
+    let zeros = zeros_overflow(words, len, n, s, rank, &table);
+    image_len(s, n, rank, ones, zeros)
+}
+
+// Whether it has room in so many words. Where they are as many as the limit, nothing is measured.
+fn has_room(words: &[u64], len: usize, n: usize, s: Sizes, rank: bool, room: usize) -> bool
+    requires { ⌜ Sizable (now words) len n s ⌝ }
+    ensures { λ r. ⌜ r ≡ leb (length (bitsImage (now (words .entry)) len rank)) room ⌝ }
+{
+    if limit_of(s, n, rank) <= room {
+        return true;
+    }
+    measured_len(words, len, n, s, rank) <= room
 }
 
 // The next one, which there is.
@@ -142,14 +150,13 @@ fn file_ones(words: &[u64], len: usize, n: usize, s: Sizes, buffer: &mut [u64]) 
     file_all(words, len, n, s, &places, &mut *buffer)
 }
 
-// Writes the image.
-fn write(words: &[u64], len: usize, rank: bool, j: Job, buffer: &mut [u64])
+// Writes the image. How many words it has comes back.
+fn write(words: &[u64], len: usize, rank: bool, j: Job, buffer: &mut [u64]) -> usize
     requires { ⌜ Ready (now words) len rank (length (now buffer)) j ⌝ }
-    ensures { λ _. ⌜ now (buffer .exit) ≡ bitsImage (now (words .entry)) len rank ++ drop (length (bitsImage (now (words .entry)) len rank)) (now (buffer .entry)) ⌝ }
+    ensures { λ r. ⌜ ((now (buffer .exit) ≡ bitsImage (now (words .entry)) len rank ++ drop (length (bitsImage (now (words .entry)) len rank)) (now (buffer .entry))) × (r ≡ length (bitsImage (now (words .entry)) len rank))) ⌝ }
 {
     let n = j.ones as u64;
     let s = j.sizes;
-    let p = j.plan;
     let last = file_ones(words, len, j.ones, s, &mut *buffer);
     let b = Builder {
         universe: len as u64,
@@ -157,7 +164,7 @@ fn write(words: &[u64], len: usize, rank: bool, j: Job, buffer: &mut [u64])
         num_pushed: n,
         last,
     };
-    write_image(&mut *buffer, b, rank, p);
+    write_image(&mut *buffer, b, rank, s)
 }
 
 // The tests of the room for the image of n ones.
@@ -166,16 +173,10 @@ fn test_room(words: &[u64], len: usize, n: usize, rank: bool, room: usize) -> Te
     ensures { λ r. ⌜ Tests (now (words .entry)) len rank room r ⌝ }
 {
     let s = of_record(len as u64, n as u64);
-    let table = select_in_byte_table();
-    let p = plan(words, len, n, s, rank, &table);
-    if room < p.end {
+    if !has_room(words, len, n, s, rank, room) {
         return TestedBits::Refused(Refusal::ShortBuffer);
     }
-    TestedBits::Passed(Job {
-        ones: n,
-        sizes: s,
-        plan: p,
-    })
+    TestedBits::Passed(Job { ones: n, sizes: s })
 }
 
 // The tests of n ones, with so many words lent.
@@ -196,10 +197,7 @@ pub fn from_ones(words: &[u64], len: usize, n: usize, rank: bool, buffer: &mut [
     ensures { λ r. ⌜ leaves (builtAnswer r) (now (buffer .exit)) ≡ passing (onesTest (now (words .entry)) len rank (length (now (buffer .entry)))) (now (buffer .entry)) (bitsWritten (now (words .entry)) len rank (now (buffer .entry))) ⌝ }
 {
     match test_ones(words, len, n, rank, buffer.len()) {
-        TestedBits::Passed(j) => {
-            write(words, len, rank, j, &mut *buffer);
-            Built::Words(j.plan.end)
-        }
+        TestedBits::Passed(j) => Built::Words(write(words, len, rank, j, &mut *buffer)),
         TestedBits::Refused(e) => Built::Refused(e),
     }
 }

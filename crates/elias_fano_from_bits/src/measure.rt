@@ -1,24 +1,21 @@
-// The sizes of a record's indexes, from the bits that it is made of: nothing is written to be measured.
+// What goes to the overflow of a record's indexes, from the bits that it is made of: nothing is written to be measured.
 //
 // With l low bits the k-th one of the record's high bits stands at p / 2^l + k, p being the place of the k-th one of the source; its k-th zero stands at
 // k plus the number of ones of the source below (k + 1) × 2^l. So the ends of each block of both indexes are found in one pass over the source.
 // All functions are inner: they demand bits with as many ones as a record takes.
 ghost use mathlib.Core.Path.{_≡_};
 ghost use mathlib.Core.Bool.{true, false};
-ghost use Prim.Native.Nat.{_+_, _*_, _/_, _^_, _≤_, _<_, min};
+ghost use Prim.Native.Nat.{_+_, _*_, _^_, _≤_, _<_, min};
 ghost use lib.ListN.{length};
 ghost use Rattle.broadword.specs.Bits.{count};
 ghost use Rattle.broadword.specs.Places.{SelectInByte};
 ghost use Rattle.bit_words.specs.Vector.{wordsFor, bitOver};
-ghost use Rattle.darray.specs.Sizes.{Sized};
-ghost use Rattle.darray_positions.specs.Index.{before};
+ghost use Rattle.darray_positions.specs.Index.{blocks, before};
 ghost use Rattle.elias_fano_from_bits.specs.Building.{Countable, lowOf, positionsOf, Marked, Seekable, Seen};
 use bit_words::WORD_LEN;
 use bit_words::find_within;
 use bit_words::words_for;
 use broadword::popcount;
-use darray::inner::Sizes;
-use darray::inner::sizes_by;
 use darray_positions::scan::BLOCK_LEN;
 use darray_positions::scan::block_size;
 use darray_positions::scan::spilled;
@@ -123,7 +120,7 @@ fn high_place(
 }
 
 // How many of the n positions go to the overflow of the index over the ones or the zeros.
-fn overflow_of(
+pub fn overflow_of(
     words: &[u64],
     len: usize,
     l: usize,
@@ -132,7 +129,7 @@ fn overflow_of(
     table: &[u8; 2048],
 ) -> usize
     requires { ⌜ (Countable (now words) len × (l ≡ lowOf (now words) len) × (n ≡ length (positionsOf (now words) len «over_one»)) × SelectInByte (now table)) ⌝ }
-    ensures { λ r. ⌜ r ≡ before (positionsOf (now (words .entry)) len «over_one») ((n + 1023) / 1024) ⌝ }
+    ensures { λ r. ⌜ r ≡ before (positionsOf (now (words .entry)) len «over_one») (blocks (positionsOf (now (words .entry)) len «over_one»)) ⌝ }
 {
     let blocks = (n + (BLOCK_LEN - 1)) / BLOCK_LEN;
     let mut overflow: usize = 0;
@@ -150,19 +147,4 @@ fn overflow_of(
         j += 1;
     }
     overflow
-}
-
-// The sizes of the index over the ones or the zeros of the high bits, of which there are n.
-pub fn sizes_over(
-    words: &[u64],
-    len: usize,
-    l: usize,
-    over_one: bool,
-    n: usize,
-    table: &[u8; 2048],
-) -> Sizes
-    requires { ⌜ (Countable (now words) len × (l ≡ lowOf (now words) len) × (n ≡ length (positionsOf (now words) len «over_one»)) × SelectInByte (now table)) ⌝ }
-    ensures { λ r. ⌜ Sized (positionsOf (now (words .entry)) len «over_one») r ⌝ }
-{
-    sizes_by(n, overflow_of(words, len, l, over_one, n, table))
 }

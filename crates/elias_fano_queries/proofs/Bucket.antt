@@ -23,7 +23,7 @@ use Rattle.elias_fano_words.proofs.Bitwise.{count-suc}
 use Rattle.elias_fano_words.proofs.Decode.{select-high, count-high}
 use Rattle.elias_fano_words.proofs.Ones.{placeOf}
 use Rattle.elias_fano.specs.Ask.{below}
-use Rattle.elias_fano.proofs.Parts.{all-bits, ones-are}
+use Rattle.elias_fano_words.proofs.Lengths.{all-bits, ones-are}
 use Rattle.elias_fano_queries.proofs.Below as below-law
 use Rattle.elias_fano_queries.proofs.Upper as upper
 

@@ -1,31 +1,29 @@
--- The prefix sums as a list of times: its settings, the plan of its image, and the words while the sums are filed. Assumes nothing.
-use mathlib.Core.Path.{_≡_, sym, ap, _∙_, subst⁻¹}
-use mathlib.Core.List.{List, [], _++_}
+-- The prefix sums as a list of times: its settings, the room for its image, and the words while the sums are filed. Assumes nothing.
+use mathlib.Core.Path.{_≡_, refl, sym, ap, _∙_, subst⁻¹}
+use mathlib.Core.List.{List, _++_}
 use mathlib.Core.Bool.{true, false}
-use Prim.Native.Nat.{ℕ, suc, _+_, _/_, _^_, _≤_, _<_}
+use Prim.Native.Nat.{ℕ, suc, _*_, _^_, _≤_, _<_}
 use native.Mathlib.Nat.{le-refl, le-of-eq}
 use native.Mathlib.Omega.{arith}
+use lib.Dec.{leb}
 use lib.ListN.{length, take, drop}
 use lib.Seq.{take-all}
 use Rattle.bit_words.proofs.Runs.{Fit}
-use Rattle.darray_positions.specs.Index.{before}
-use Rattle.darray.specs.Sizes.{sizesBy, Sized}
-use Rattle.darray.specs.declared.inner.Sizes.{Sizes as IndexSizes}
-use Rattle.darray.proofs.Building.{by-sized}
+use Rattle.darray_positions.specs.Index.{blocks, before}
 use Rattle.elias_fano_words.specs.Image.{highPositions}
-use Rattle.elias_fano_words.specs.Sizes.{startLen, sizesOf}
+use Rattle.elias_fano_words.specs.Sizes.{startLen, sizesOf, imageLen, limit}
 use Rattle.elias_fano_words.specs.Times.{lastOf}
 use Rattle.elias_fano_words.specs.declared.sizes.Sizes.{Sizes}
-use Rattle.elias_fano.specs.Finishing.{Short, planBy, Finishable, filedIn}
+use Rattle.elias_fano_words.proofs.Lengths.{ones-many}
+use Rattle.elias_fano.specs.Finishing.{Finishable, filedIn}
 use Rattle.elias_fano.specs.Made.{builder}
-use Rattle.elias_fano.specs.Steps.{filed, finishedWords}
+use Rattle.elias_fano.specs.Steps.{filed, imageOf, finishedWords}
 use Rattle.elias_fano.specs.Testing.{Fileable}
 use Rattle.elias_fano.specs.declared.builder.Builder.{Builder}
-use Rattle.elias_fano.specs.declared.finish.Plan.{Plan}
 use Rattle.elias_fano.proofs.Images.{Fits}
 use Rattle.elias_fano.proofs.Listing as listing
 use Rattle.elias_fano.proofs.Parts as parts
-use Rattle.prefix_summed_elias_fano.specs.Building.{Summable, Laid, filedSums}
+use Rattle.prefix_summed_elias_fano.specs.Building.{Summable, filedSums}
 use Rattle.prefix_summed_elias_fano.specs.Sums.{sum, sums, sumsImage}
 use Rattle.prefix_summed_elias_fano.proofs.Sums as sums-law
 
@@ -53,25 +51,30 @@ module _ (A : List ℕ) (ok : Summable A) where
   unfolding sumsImage
   six-le = parts.headed u n false T fits .six
 
-  -- ---- the plan
+  pub positions-many : length (highPositions (suc (sum A)) (length A) true (sums A)) ≡ length A
+  positions-many = ones-many u n T (fits .rises) (fits .few) ∙ many
 
-  pub sized : (o : ℕ) → o ≡ before (highPositions (suc (sum A)) (length A) true (sums A)) ((length A + 1023) / 1024) → Sized (highPositions (suc (sum A)) (length A) true (sums A)) (sizesBy (length A) o)
-  sized o e = by-sized (highPositions u n true T) n o (sym (parts.ones-many u n T (fits .rises) (fits .few) ∙ many)) e
+  -- ---- the room for the image
 
-  module _ (x y : IndexSizes) (z : Sized (highPositions (suc (sum A)) (length A) true (sums A)) x) (v : Sized [] y) (s : Sizes) (es : s ≡ sizesOf (suc (sum A)) (length A)) where
-    pub plannable : Short x × Short y × (s .«start_len» < 2 ^ 32)
-    plannable = listing.plannable u n T fits many false x y z v s es
+  pub start-room : (k : ℕ) → length (sumsImage A) ≤ k → startLen (suc (sum A)) (length A) ≤ k
+  unfolding sumsImage
+  start-room k h = let a = listing.start-le u n T fits many false in omega arith
 
-    pub laid : (p : Plan) → p ≡ planBy x y (s .«high_len») (s .«start_len») → Laid A p
-    laid p e = listing.planned-by u n T fits many false x y z v s es p e
+  module _ (s : Sizes) (es : s ≡ sizesOf (suc (sum A)) (length A)) where
+    pub limit-ready : (s .«start_len» < 2 ^ 32) × (s .«high_len» < 2 ^ 32) × (length A < 2 ^ 32)
+    limit-ready = listing.limit-ready u n T fits many false s es
 
-  module _ (p : Plan) (q : Laid A p) where
-    pub end-is : p .end ≡ length (sumsImage A)
+    pub limit-room : (x k : ℕ) → ((v : ℕ) → s ≡ sizesOf v (length A) → x ≡ limit v (length A) false) → x ≤ k → true ≡ leb (length (sumsImage A)) k
     unfolding sumsImage
-    end-is = listing.end-is u n T fits many false p q
+    limit-room x k e = listing.limit-room u n T fits many false s es x k (e u es)
 
-    pub start-le : startLen (suc (sum A)) (length A) ≤ p .end
-    start-le = listing.start-le u n T fits many false p q
+    module _ (o : ℕ) (eo : o ≡ before (highPositions (suc (sum A)) (length A) true (sums A)) (blocks (highPositions (suc (sum A)) (length A) true (sums A)))) where
+      pub len-ready : (s .«low_at» < 2 ^ 32) × (length A * s .«low_len» < 2 ^ 32) × (s .«high_len» < 2 ^ 32) × (length A ≤ s .«high_len») × (o < 2 ^ 32) × (0 < 2 ^ 32)
+      len-ready = listing.len-ready u n T fits many false s es o 0 eo refl
+
+      pub measured-is : (k : ℕ) → ((v m : ℕ) → s ≡ sizesOf v m → k ≡ imageLen v m (length A) false o 0) → k ≡ length (sumsImage A)
+      unfolding sumsImage
+      measured-is k e = listing.measured-is u n T fits many false s es o 0 eo refl k (λ v m h. e v m h ∙ ap (λ (j : ℕ). imageLen v m j false o 0) (sym many))
 
   -- ---- filing
 
@@ -91,13 +94,18 @@ module _ (A : List ℕ) (ok : Summable A) where
     last-all : lastOf (sums A) ≡ sum A
     last-all = ap lastOf (sym (take-all n T (le-of-eq many))) ∙ sums-law.last-sum A n (le-refl n) ∙ sums-law.sum-whole A
 
-    module _ (p : Plan) (q : Laid A p) (b : Builder) (eb : b ≡ builder (suc (sum A)) (length A) (length A) (sum A)) (x : List ℕ) (ex : x ≡ filedSums A w) where
+    module _ (b : Builder) (eb : b ≡ builder (suc (sum A)) (length A) (length A) (sum A)) (x : List ℕ) (ex : x ≡ filedSums A w) where
       numbers-are : b ≡ builder (suc (sum A)) (length A) (length A) (lastOf (sums A))
       numbers-are = eb ∙ ap (builder u n n) (sym last-all)
 
-      pub ready : length (sumsImage A) ≤ length w → Finishable b false p x × (p .end ≤ length x)
-      ready r = listing.ready u n T fits many w fw long false p q b numbers-are x ex (subst⁻¹ (λ (y : ℕ). y ≤ length w) (end-is p q) r)
+      pub ready : (s : Sizes) → s ≡ sizesOf (suc (sum A)) (length A) → length (sumsImage A) ≤ length w → Finishable b false s x
+      unfolding sumsImage
+      ready s es r = listing.ready u n T fits many w fw long false b numbers-are x ex s es r
 
       pub wrote : (y : List ℕ) → y ≡ finishedWords b false x → y ≡ sumsImage A ++ drop (length (sumsImage A)) w
       unfolding sumsImage
-      wrote y e = listing.wrote u n T fits many w fw long false p q b numbers-are x ex y e
+      wrote y e = listing.wrote u n T fits many w fw long false b numbers-are x ex y e
+
+      pub wrote-length : (k : ℕ) → k ≡ length (imageOf b false x) → k ≡ length (sumsImage A)
+      unfolding sumsImage
+      wrote-length k e = listing.wrote-length u n T fits many w fw long false b numbers-are x ex k e

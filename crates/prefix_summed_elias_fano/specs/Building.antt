@@ -2,17 +2,13 @@
 -- items. Assumes nothing.
 use mathlib.Core.Path.{_≡_}
 use mathlib.Core.List.{List, _++_}
-use mathlib.Core.Bool.{false}
 use Prim.Native.Nat.{ℕ, suc, _-_, _^_, _≤_, _<_}
 use lib.ListN.{length, take, drop, replicate}
 use Rattle.errors.specs.Answer.{refused}
 use Rattle.errors.specs.Refusal.{numberOf}
-use Rattle.elias_fano_words.specs.Image.{highWords}
-use Rattle.elias_fano_words.specs.Sizes.{highLen, startLen, sizesOf}
+use Rattle.elias_fano_words.specs.Sizes.{startLen, sizesOf}
 use Rattle.elias_fano_words.specs.declared.sizes.Sizes.{Sizes}
-use Rattle.elias_fano.specs.declared.finish.Plan.{Plan}
-use Rattle.elias_fano.specs.Accept.{onesAt}
-use Rattle.elias_fano.specs.Finishing.{Planned, filedIn}
+use Rattle.elias_fano.specs.Finishing.{filedIn}
 use Rattle.prefix_summed_elias_fano.specs.Sums.{sum, sums, sumsImage, sliceTest}
 use Rattle.prefix_summed_elias_fano.specs.declared.build.Job.{Job}
 use Rattle.prefix_summed_elias_fano.specs.declared.build.TestedSlice.{TestedSlice}
@@ -38,10 +34,6 @@ pub record Part (A : List ℕ) (from to x : ℕ) : Type 0 where
   pub before : x ≡ sum (take from A)
   pub small : sum A < 2 ^ 64
 
--- the plan of the image
-abbrev pub Laid : List ℕ → Plan → Type 0
-Laid A p = Planned false (highWords (suc (sum A)) (length A) (sums A)) (highLen (suc (sum A)) (length A)) (onesAt (suc (sum A)) (length A) (length A)) p
-
 -- k words are enough for its start
 pub record Writing (A : List ℕ) (s : Sizes) (k : ℕ) : Type 0 where
   pub summable : Summable A
@@ -61,7 +53,6 @@ pub record Ready (A : List ℕ) (k : ℕ) (j : Job) : Type 0 where
   pub summable : Summable A
   pub sum-is : j .sum ≡ sum A
   pub sizes : j .sizes ≡ sizesOf (suc (sum A)) (length A)
-  pub laid : Laid A (j .plan)
   pub room : length (sumsImage A) ≤ k
 
 abbrev pub Tests : List ℕ → ℕ → TestedSlice → Type 0

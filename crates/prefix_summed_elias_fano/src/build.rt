@@ -1,35 +1,32 @@
 // Writing a list of items as the record of its prefix sums, without a rank index.
 //
-// The overflow of the index is counted from the items before the first word is written: the k-th one of the high bits stands at the high bits of the k-th sum plus
-// k, so the ends of each block follow from the sums. Two passes over the items, and one to add them up.
+// One pass over the items adds them up, and one files the sums. In a buffer below the limit (document 02 (vii)) the overflow of the index is counted between them, from the
+// items, before the first word is written: the k-th one of the high bits stands at the high bits of the k-th sum plus k, so the ends of each block follow from the sums.
 ghost use mathlib.Core.Path.{_≡_};
 ghost use mathlib.Core.Bool.{true};
 ghost use mathlib.Core.List.{_++_};
-ghost use Prim.Native.Nat.{suc, _+_, _/_, _<_};
+ghost use Prim.Native.Nat.{suc, _<_};
+ghost use lib.Dec.{leb};
 ghost use lib.ListN.{length, take, drop};
 ghost use Rattle.errors.specs.Answer.{leaves};
-ghost use Rattle.darray_positions.specs.Index.{before};
-ghost use Rattle.darray.specs.Sizes.{Sized};
+ghost use Rattle.darray_positions.specs.Index.{blocks, before};
 ghost use Rattle.elias_fano_words.specs.Image.{highPositions};
 ghost use Rattle.elias_fano_words.specs.Sizes.{lowLen, sizesOf};
 ghost use Rattle.elias_fano.specs.Made.{builtAnswer};
-ghost use Rattle.prefix_summed_elias_fano.specs.Building.{SumOf, Summable, Part, Laid, Writing, Ready, Tests, Zeroed, filedSums};
+ghost use Rattle.prefix_summed_elias_fano.specs.Building.{SumOf, Summable, Part, Writing, Ready, Tests, Zeroed, filedSums};
 ghost use Rattle.prefix_summed_elias_fano.specs.Sums.{sum as sumOf, sums, sumsImage, fromSliceOf};
 use bit_words::fill;
-use darray::inner::Sizes as IndexSizes;
-use darray::inner::sizes_by;
 use darray_positions::scan::BLOCK_LEN;
 use darray_positions::scan::block_size;
 use darray_positions::scan::spilled;
 use elias_fano::builder::Builder;
 use elias_fano::builder::Built;
 use elias_fano::builder::file;
-use elias_fano::finish::Plan;
-use elias_fano::finish::no_sizes;
-use elias_fano::finish::plan_by;
 use elias_fano::finish::write_image;
 use elias_fano_words::sizes::MAX_VALS;
 use elias_fano_words::sizes::Sizes;
+use elias_fano_words::sizes::image_len;
+use elias_fano_words::sizes::limit_of;
 use elias_fano_words::sizes::of_record;
 use errors::Refusal;
 
@@ -42,11 +39,10 @@ enum Summed {
     TooLarge,
 }
 
-// What nothing stands against: the sum, the sizes of the record, and the plan of the image.
+// What nothing stands against: the sum, and the sizes of the record.
 struct Job {
     sum: u64,
     sizes: Sizes,
-    plan: Plan,
 }
 
 // What the tests find.
@@ -88,7 +84,7 @@ fn add_up(items: &[u64], from: usize, to: usize, start: u64) -> u64
 // How many positions go to the overflow of the index over the ones, with l low bits to a sum.
 fn overflow_of(items: &[u64], l: usize) -> usize
     requires { ⌜ (Summable (now items) × (l ≡ lowLen (suc (sumOf (now items))) (length (now items)))) ⌝ }
-    ensures { λ r. ⌜ r ≡ before (highPositions (suc (sumOf (now (items .entry)))) (length (now (items .entry))) true (sums (now (items .entry)))) ((length (now (items .entry)) + 1023) / 1024) ⌝ }
+    ensures { λ r. ⌜ r ≡ before (highPositions (suc (sumOf (now (items .entry)))) (length (now (items .entry))) true (sums (now (items .entry)))) (blocks (highPositions (suc (sumOf (now (items .entry)))) (length (now (items .entry))) true (sums (now (items .entry))))) ⌝ }
 {
     let n = items.len();
     let blocks = (n + (BLOCK_LEN - 1)) / BLOCK_LEN;
@@ -111,21 +107,23 @@ fn overflow_of(items: &[u64], l: usize) -> usize
     overflow
 }
 
-// The sizes of the index over the ones.
-fn ones_sizes(items: &[u64], l: usize) -> IndexSizes
-    requires { ⌜ (Summable (now items) × (l ≡ lowLen (suc (sumOf (now items))) (length (now items)))) ⌝ }
-    ensures { λ r. ⌜ Sized (highPositions (suc (sumOf (now (items .entry)))) (length (now (items .entry))) true (sums (now (items .entry)))) r ⌝ }
+// How many words the image has.
+fn measured_len(items: &[u64], s: Sizes) -> usize
+    requires { ⌜ (Summable (now items) × (s ≡ sizesOf (suc (sumOf (now items))) (length (now items)))) ⌝ }
+    ensures { λ r. ⌜ r ≡ length (sumsImage (now (items .entry))) ⌝ }
 {
-    sizes_by(items.len(), overflow_of(items, l))
+    image_len(s, items.len(), false, overflow_of(items, s.low_len), 0)
 }
 
-// The plan of the image.
-fn plan(items: &[u64], s: Sizes) -> Plan
+// Whether it has room in so many words. Where they are as many as the limit, nothing is measured.
+fn has_room(items: &[u64], s: Sizes, room: usize) -> bool
     requires { ⌜ (Summable (now items) × (s ≡ sizesOf (suc (sumOf (now items))) (length (now items)))) ⌝ }
-    ensures { λ r. ⌜ Laid (now (items .entry)) r ⌝ }
+    ensures { λ r. ⌜ r ≡ leb (length (sumsImage (now (items .entry)))) room ⌝ }
 {
-    let ones = ones_sizes(items, s.low_len);
-    plan_by(ones, no_sizes(), s.high_len, s.start_len)
+    if limit_of(s, items.len(), false) <= room {
+        return true;
+    }
+    measured_len(items, s) <= room
 }
 
 // Files the prefix sums, one after the other, into words that are zeroed for them.
@@ -158,15 +156,14 @@ fn file_sums(items: &[u64], universe: u64, s: Sizes, buffer: &mut [u64])
     file_all(items, universe, s, &mut *buffer);
 }
 
-// Writes the image.
-fn write(items: &[u64], j: Job, buffer: &mut [u64])
+// Writes the image. How many words it has comes back.
+fn write(items: &[u64], j: Job, buffer: &mut [u64]) -> usize
     requires { ⌜ Ready (now items) (length (now buffer)) j ⌝ }
-    ensures { λ _. ⌜ now (buffer .exit) ≡ sumsImage (now (items .entry)) ++ drop (length (sumsImage (now (items .entry)))) (now (buffer .entry)) ⌝ }
+    ensures { λ r. ⌜ ((now (buffer .exit) ≡ sumsImage (now (items .entry)) ++ drop (length (sumsImage (now (items .entry)))) (now (buffer .entry))) × (r ≡ length (sumsImage (now (items .entry))))) ⌝ }
 {
     let n = items.len() as u64;
     let sum = j.sum;
     let s = j.sizes;
-    let p = j.plan;
     let b = Builder {
         universe: sum + 1,
         num_vals: n,
@@ -174,7 +171,7 @@ fn write(items: &[u64], j: Job, buffer: &mut [u64])
         last: sum,
     };
     file_sums(items, sum + 1, s, &mut *buffer);
-    write_image(&mut *buffer, b, false, p);
+    write_image(&mut *buffer, b, false, s)
 }
 
 // The tests of the room for the image.
@@ -183,15 +180,10 @@ fn test_room(items: &[u64], sum: u64, len: usize) -> TestedSlice
     ensures { λ r. ⌜ Tests (now (items .entry)) len r ⌝ }
 {
     let s = of_record(sum + 1, items.len() as u64);
-    let p = plan(items, s);
-    if len < p.end {
+    if !has_room(items, s, len) {
         return TestedSlice::Refused(Refusal::ShortBuffer);
     }
-    TestedSlice::Passed(Job {
-        sum,
-        sizes: s,
-        plan: p,
-    })
+    TestedSlice::Passed(Job { sum, sizes: s })
 }
 
 // The tests of some items, with so many words lent.
@@ -217,10 +209,7 @@ pub fn from_slice(items: &[u64], buffer: &mut [u64]) -> Built
         return Built::Words(0);
     }
     match test(items, buffer.len()) {
-        TestedSlice::Passed(j) => {
-            write(items, j, &mut *buffer);
-            Built::Words(j.plan.end)
-        }
+        TestedSlice::Passed(j) => Built::Words(write(items, j, &mut *buffer)),
         TestedSlice::Refused(e) => Built::Refused(e),
     }
 }

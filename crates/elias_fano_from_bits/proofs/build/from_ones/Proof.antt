@@ -2,7 +2,6 @@
 -- Assumes nothing.
 use borrow.Author.Needs.{needs}
 use Rattle.elias_fano_from_bits.proofs.Cases as cases
-use Rattle.elias_fano_from_bits.proofs.Filing as filing
 use Rattle.elias_fano_from_bits.proofs.build.from_ones.Statement.{statement}
 use Rattle.elias_fano_from_bits.proofs.build.from_ones.Tie as tie
 
@@ -29,7 +28,7 @@ returns c =
     let h = cases.passed (s .args .words .now) (s .args .len) (s .args .rank) _ _ (c .before .before .before .before .before .before .before .test-ones .ensures) _ (c .before .before .before .before .before .j .given .1) in
     let ok = h .sizable .countable in
     cases.ones-written (s .args .words .now) (s .args .len) (s .args .rank) (s .args .buffer .now) (cases.ones-done (s .args .words .now) (s .args .len) (s .args .rank) _ ok (h .room))
-    _ (filing.end-is (s .args .words .now) (s .args .len) ok (s .args .rank) _ (h .laid)) _ (c .before .before .write .ensures)
+    _ (c .before .before .write .ensures .1) _ (c .before .before .write .ensures .0)
 
 returns-2 : tie.Need-returns-2
 returns-2 c =

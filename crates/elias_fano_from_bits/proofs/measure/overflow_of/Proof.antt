@@ -6,7 +6,7 @@ use Prim.Native.Nat.{ℕ, suc, _+_, _-_, _*_, _/_, _≤_, _<_, min}
 use native.Mathlib.Numerals.{add-one}
 use native.Mathlib.Omega.{arith}
 use lib.ListN.{length}
-use Rattle.darray_positions.specs.Index.{before}
+use Rattle.darray_positions.specs.Index.{blocks, before}
 use Rattle.darray_positions.proofs.Index as index
 use Rattle.elias_fano_words.specs.Image.{highWords}
 use Rattle.elias_fano_words.specs.Sizes.{highLen}
@@ -133,10 +133,11 @@ loop-again c =
     )
 
 returns : tie.Need-returns Inv-loop μ-loop
+unfolding blocks
 returns c =
     let s = c .before .before .before in
     let l = c .before .loop in
-    l .inv .1 ∙ ap (before (positionsOf (s .args .words .now) (s .args .len) (s .args .over-one))) (let e : l .j ≡ (s .args .n + 1023) / 1024 = omega (arith, c .loop-test .left, l .inv .0) in e)
+    l .inv .1 ∙ ap (before (positionsOf (s .args .words .now) (s .args .len) (s .args .over-one))) (let e : l .j ≡ (s .args .n + 1023) / 1024 = omega (arith, c .loop-test .left, l .inv .0) in e ∙ ap (λ (m : ℕ). (m + 1023) / 1024) (s .pre .2))
 
 pub overflow-of-spec : {M : Type 1} → statement M
 overflow-of-spec = tie.close (tie.spec Inv-loop μ-loop sub-blocks add-blocks loop-holds mul-k block-size-requires high-place-requires sub-high-place add-high-place high-place-requires-2 spilled-requires add-overflow add-j loop-less loop-again returns)

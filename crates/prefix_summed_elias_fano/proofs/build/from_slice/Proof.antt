@@ -2,7 +2,6 @@
 -- Assumes nothing.
 use borrow.Author.Needs.{needs}
 use Rattle.prefix_summed_elias_fano.proofs.Cases as cases
-use Rattle.prefix_summed_elias_fano.proofs.Filing as filing
 use Rattle.prefix_summed_elias_fano.proofs.build.from_slice.Statement.{statement}
 use Rattle.prefix_summed_elias_fano.proofs.build.from_slice.Tie as tie
 
@@ -25,7 +24,7 @@ same-length : tie.Need-same-length
 same-length c = search needs
 
 returns-2 : tie.Need-returns-2
-returns-2 c = let s = c .before .before .before .before .before .before .before .before .before .before .before in let h = cases.passed (s .args .items .now) _ _ (c .before .before .before .before .before .before .before .test .ensures) _ (c .before .before .before .before .before .j .given .1) in cases.from-done (s .args .items .now) (s .args .buffer .now) (c .before .before .before .before .before .before .before .before .if1 .left) (cases.slice-done (s .args .items .now) _ (h .summable) (h .room)) _ (filing.end-is (s .args .items .now) (h .summable) _ (h .laid)) _ (c .before .before .write .ensures)
+returns-2 c = let s = c .before .before .before .before .before .before .before .before .before .before .before in let h = cases.passed (s .args .items .now) _ _ (c .before .before .before .before .before .before .before .test .ensures) _ (c .before .before .before .before .before .j .given .1) in cases.from-done (s .args .items .now) (s .args .buffer .now) (c .before .before .before .before .before .before .before .before .if1 .left) (cases.slice-done (s .args .items .now) _ (h .summable) (h .room)) _ (c .before .before .write .ensures .1) _ (c .before .before .write .ensures .0)
 
 returns-3 : tie.Need-returns-3
 returns-3 c = let s = c .before .before .before .before .before .before .before in cases.from-refused (s .args .items .now) (s .args .buffer .now) (c .before .before .before .before .if1 .left) _ (cases.not-passed (s .args .items .now) _ _ (c .before .before .before .test .ensures) _ (c .before .e .given .1))

@@ -7,12 +7,13 @@ use Prim.Native.Nat.{ℕ, suc, _+_, _-_, _*_, _/_, _≤_, _<_}
 use native.Mathlib.Numerals.{add-one}
 use native.Mathlib.Omega.{arith}
 use lib.ListN.{length, take}
-use Rattle.darray_positions.specs.Index.{before, spill}
+use Rattle.darray_positions.specs.Index.{blocks, before, spill}
 use Rattle.darray_positions.proofs.Index as index
 use Rattle.elias_fano_words.specs.Image.{highPositions}
 use Rattle.prefix_summed_elias_fano.specs.Sums.{sum as sumOf, sums}
 use Rattle.prefix_summed_elias_fano.proofs.Sums as sums-law
 use Rattle.prefix_summed_elias_fano.proofs.Blocks as block
+use Rattle.prefix_summed_elias_fano.proofs.Filing as filing
 use Rattle.prefix_summed_elias_fano.proofs.build.overflow_of.Statement.{statement}
 use Rattle.prefix_summed_elias_fano.proofs.build.overflow_of.Tie as tie
 
@@ -105,7 +106,8 @@ loop-again : tie.Need-loop-again Inv-loop μ-loop
 loop-again c = let s = c .before .before .before .before .before .before .before in let l = c .before .before .before .before .before .loop in (omega (arith, c .before .before .before .before .loop-test .taken), next-before c, c .before .add-up2 .ensures ∙ ap (λ (z : ℕ). sumOf (take (1024 * l .j + z) (s .args .items .now))) (c .before .before .before .block-size .ensures) ∙ block.up-to-next (s .args .items .now) (l .j) (there (c .before .before .before .before)))
 
 returns : tie.Need-returns Inv-loop μ-loop
-returns c = let s = c .before .before .before in let l = c .before .loop in l .inv .1 ∙ ap (before (highPositions (suc (sumOf (s .args .items .now))) (length (s .args .items .now)) true (sums (s .args .items .now)))) (let e : l .j ≡ (length (s .args .items .now) + 1023) / 1024 = omega (arith, c .loop-test .left, l .inv .0) in e)
+unfolding blocks
+returns c = let s = c .before .before .before in let l = c .before .loop in l .inv .1 ∙ ap (before (highPositions (suc (sumOf (s .args .items .now))) (length (s .args .items .now)) true (sums (s .args .items .now)))) (let e : l .j ≡ (length (s .args .items .now) + 1023) / 1024 = omega (arith, c .loop-test .left, l .inv .0) in e ∙ ap (λ (m : ℕ). (m + 1023) / 1024) (sym (filing.positions-many (s .args .items .now) (s .pre .0))))
 
 pub overflow-of-spec : {M : Type 1} → statement M
 overflow-of-spec = tie.close (tie.spec Inv-loop μ-loop sub-blocks add-blocks loop-holds mul-k block-size-requires add-add-up add-up-requires add-add-up-2 add-add-up-3 add-up-requires-2 shr-spilled add-spilled shr-spilled-2 sub-spilled add-spilled-2 add-spilled-3 spilled-requires add-overflow add-j loop-less loop-again returns)
