@@ -1,6 +1,6 @@
 -- The tests of each call, one law to a case, and what a call leaves where they refuse and where they are done: the code's proofs cite them at
 -- each `return`, and the model's proof cites them again. Assumes nothing.
-use mathlib.Core.Path.{_≡_, ap}
+use mathlib.Core.Path.{_≡_, sym, ap, _∙_}
 use mathlib.Core.List.{List, _++_}
 use mathlib.Core.Bool.{Bool, true, false, _&&_, cond}
 use Prim.Native.Nat.{ℕ, _+_, _≤_, _<_}
@@ -9,11 +9,11 @@ use borrow.Author.Tests.{le-ltb, lt-ltb, le-leb, lt-leb, eq-eqb, ne-eqb, leb-tru
 use lib.Dec.{eqb, leb, ltb}
 use lib.ListN.{length, drop, replicate}
 use Rattle.errors.specs.Answer.{Answer, value, done, refused}
-use Rattle.elias_fano_words.specs.Sizes.{startLen}
+use Rattle.elias_fano_words.specs.Sizes.{startLen, limit}
 use Rattle.broadword.proofs.Truth.{and-true}
 use Rattle.elias_fano.specs.declared.builder.Builder.{Builder}
 use Rattle.elias_fano.specs.Made.{Made, made, builder, nobody}
-use Rattle.elias_fano.specs.Steps.{tested, newTest, newOf, sound, builderTest, timeTest, filed, pushTest, pushOf, intact, imageOf, imageTest, buildTest, finishedWords, buildOf}
+use Rattle.elias_fano.specs.Steps.{tested, limitOf, newTest, newOf, sound, builderTest, timeTest, filed, pushTest, pushOf, intact, imageOf, imageTest, buildTest, finishedWords, buildOf}
 
 -- ---- any call
 
@@ -23,6 +23,21 @@ module _ (a : Answer) (b : Builder) (w : List ℕ) (m : Made) where
 
   tested-done : a ≡ done → tested a b w m ≡ m
   tested-done e = ap (λ (x : Answer). tested x b w m) e
+
+-- ---- the limit
+
+module _ (u n : ℕ) (c : Bool) where
+  pub limit-1 : n ≡ 0 → refused 1 ≡ limitOf u n c
+  unfolding limitOf
+  limit-1 h = simp (eq-eqb _ _ h)
+
+  pub limit-2 : (n ≡ 0 → ⊥) → 16777216 < n → refused 2 ≡ limitOf u n c
+  unfolding limitOf
+  limit-2 h i = simp (ne-eqb _ _ h, lt-ltb _ _ i)
+
+  pub limit-value : (n ≡ 0 → ⊥) → n ≤ 16777216 → (k : ℕ) → k ≡ limit u n c → value k ≡ limitOf u n c
+  unfolding limitOf
+  limit-value h i k e = ap value e ∙ sym (simp (ne-eqb _ _ h, le-ltb _ _ i))
 
 -- ---- new
 

@@ -1,4 +1,4 @@
--- Document 01's examples of the calls as rows of one table, those of the search as document 02 (i) has them, of the predecessor as (iii), and the theorem that covers the table. Assumes nothing.
+-- Document 01's examples of the calls as rows of one table, those of the search as document 02 (i) has them, of the predecessor as (iii), those of the limit (vii), and the theorem that covers the table. Assumes nothing.
 use mathlib.Core.Path.{_≡_, ap}
 use mathlib.Core.List.{List, [], _∷_, _++_, map}
 use mathlib.Core.Bool.{Bool, true, false}
@@ -13,13 +13,13 @@ use Rattle.bit_words.specs.Vector.{bitAt, bitOver, number, numberWords, overwri
 use Rattle.darray_positions.specs.Index.{table, pos, blocks, size, wide, spill, before, entry, lanes, lane, laneWord, laneWords, overflow, indexWords}
 use Rattle.darray_positions.specs.Positions.{places}
 use Rattle.darray.specs.Queries.{same}
-use Rattle.elias_fano_words.specs.Sizes.{lowLen, highLen, startLen}
+use Rattle.elias_fano_words.specs.Sizes.{lowLen, highLen, startLen, limit}
 use Rattle.elias_fano_words.specs.Image.{highFrom, lowNumber, highWords, lowWords, image}
 use Rattle.elias_fano_words.specs.Times.{rising, bitWords, timeIn, timesIn, holds}
 use Rattle.elias_fano.specs.Accept.{fit, times, accepted}
 use Rattle.elias_fano.specs.Ask.{Select, Delta, Rank, Predecessor, Successor, Binsearch, BinsearchRange, nth, gap, below, greatest, smallest, firstIndex, searched, ask, query}
 use Rattle.elias_fano.specs.Made.{Made, made, builder}
-use Rattle.elias_fano.specs.Steps.{tested, newTest, newOf, sound, builderTest, timeTest, filed, pushOf, heldTimes, intact, imageOf, imageTest, buildOf}
+use Rattle.elias_fano.specs.Steps.{tested, newTest, newOf, sound, builderTest, timeTest, filed, pushOf, heldTimes, intact, imageOf, imageTest, buildOf, limitOf}
 
 -- what is asked, and what document 01 says: an answer, and the words that are left
 pub record Row : Type 0 where
@@ -109,6 +109,11 @@ rows t =
     ∷ row (query (unranked []) (Predecessor 18)) (refused 8)
     ∷ row (query (unranked []) (Predecessor 20)) none
     ∷ row (query four (BinsearchRange 0 5 3)) (refused 9)
+    ∷ row (limitOf 20 4 true) (value 12)
+    ∷ row (limitOf 20 4 false) (value 10)
+    ∷ row (limitOf 20 0 true) (refused 1)
+    ∷ row (limitOf 20 16777217 true) (refused 2)
+    ∷ row (limitOf 157680000 50000 true) (value 16111)
     ∷ []
 
 -- no time is below the universe 0
@@ -118,7 +123,7 @@ past t = simp (le-ltb t 0 (zero-le {n = t}), le-leb 0 t (zero-le {n = t}))
 
 -- by computation, but for the one row with a time that is not known
 pub rows-right : (t : ℕ) → map (λ (r : Row). r .asked) (rows t) ≡ map (λ (r : Row). r .says) (rows t)
-unfolding rows four unranked widest start filedFrom reading finish bit count word last select bitAt bitOver number numberWords overwrite table pos blocks size wide spill before entry lanes lane laneWord laneWords overflow indexWords places same lowLen highLen startLen highFrom lowNumber highWords lowWords image rising bitWords timeIn timesIn holds fit times accepted nth gap below greatest smallest firstIndex searched ask query newTest newOf sound builderTest timeTest filed pushOf heldTimes intact imageOf imageTest buildOf
+unfolding rows four unranked widest start filedFrom reading finish bit count word last select bitAt bitOver number numberWords overwrite table pos blocks size wide spill before entry lanes lane laneWord laneWords overflow indexWords places same lowLen highLen startLen highFrom lowNumber highWords lowWords image rising bitWords timeIn timesIn holds fit times accepted nth gap below greatest smallest firstIndex searched ask query newTest newOf sound builderTest timeTest filed pushOf heldTimes intact imageOf imageTest buildOf limit limitOf
 rows-right t =
     let w : List ℕ = replicate 7 0 ++ replicate 9 5 in
     let m : Answer → Made = λ a. tested a (builder 0 1 0 0) w (made done (builder 0 1 1 t) (filed 0 1 0 t w)) in

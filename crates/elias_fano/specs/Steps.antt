@@ -1,5 +1,5 @@
 -- What each call on a builder answers and leaves: the builder and every word lent. u is the universe, n the declared count, m how many
--- times were accepted. Document 01, "The image" and "Refusals with an example". Assumes nothing.
+-- times were accepted. Document 01, "The image" and "Refusals with an example"; the limit is document 02 (vii). Assumes nothing.
 use mathlib.Core.List.{List, _++_}
 use mathlib.Core.Bool.{Bool, not, _&&_, cond}
 use Prim.Native.Nat.{ℕ, _+_, _-_, _*_, _/_, _%_, _^_}
@@ -7,7 +7,7 @@ use lib.Dec.{eqb, leb, ltb}
 use lib.ListN.{length, take, drop, replicate}
 use Rattle.errors.specs.Answer.{Answer, value, none, done, refused}
 use Rattle.bit_words.specs.Vector.{overwrite}
-use Rattle.elias_fano_words.specs.Sizes.{lowLen, lowAt, startLen}
+use Rattle.elias_fano_words.specs.Sizes.{lowLen, lowAt, startLen, limit}
 use Rattle.elias_fano_words.specs.Image.{image}
 use Rattle.elias_fano_words.specs.Times.{lastOf, timesIn, holds}
 use Rattle.elias_fano.specs.declared.builder.Builder.{Builder}
@@ -21,6 +21,14 @@ tested done b w m = m
 tested (refused k) b w m = made (refused k) b w
 tested (value k) b w m = made (value k) b w
 tested none b w m = made none b w
+
+-- ---- the limit: 1, 2
+
+unfoldable pub limitOf : ℕ → ℕ → Bool → Answer
+limitOf u n c =
+    cond (eqb n 0) (refused 1)
+    (cond (ltb 16777216 n) (refused 2)
+    (value (limit u n c)))
 
 -- ---- a start: 1, 2, 3
 

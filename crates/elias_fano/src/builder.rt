@@ -1,11 +1,11 @@
-// Writing a record into lent words: `new` zeroes them, `push` files one value, `build` makes an image of them.
+// Writing a record into lent words: `new` zeroes them, `push` files one value, `build` makes an image of them; `limit` says how many words are enough.
 //
 // `push` takes constant time; `new` and `build` take time linear in the words. Nothing is allocated. The builder is a plain value, and may
 // be any: one that no run could hold is refused.
 ghost use mathlib.Core.Path.{_≡_};
 ghost use lib.ListN.{length};
-ghost use Rattle.elias_fano.specs.Made.{nobody, ofPushed, ofBuilt};
-ghost use Rattle.elias_fano.specs.Steps.{newOf, sound, filed, pushOf, intact, buildOf};
+ghost use Rattle.elias_fano.specs.Made.{nobody, ofPushed, ofBuilt, ofLimited};
+ghost use Rattle.elias_fano.specs.Steps.{limitOf, newOf, sound, filed, pushOf, intact, buildOf};
 ghost use Rattle.elias_fano.specs.Testing.{TestsNew, Roomy, TestsBuilder, Fileable, TestsPush, TestsBuild};
 use crate::finish::has_room;
 use crate::finish::write_image;
@@ -17,6 +17,7 @@ use elias_fano_words::check::Checked;
 use elias_fano_words::check::check;
 use elias_fano_words::sizes::MAX_VALS;
 use elias_fano_words::sizes::Sizes;
+use elias_fano_words::sizes::limit_of;
 use elias_fano_words::sizes::of_record;
 use errors::Refusal;
 
@@ -40,10 +41,30 @@ pub enum Built {
     Refused(Refusal),
 }
 
+// How many words are enough.
+pub enum Limited {
+    Words(usize),
+    Refused(Refusal),
+}
+
 // What the tests of a call find: the sizes of the record, or a refusal.
 enum Tested {
     Passed(Sizes),
     Refused(Refusal),
+}
+
+// How many words are enough for every record of these settings: in so many no start, push or build without or, as `rank` says, with the rank index is refused for the length of its words.
+pub fn limit(universe: u64, num_vals: u64, rank: bool) -> Limited
+    ensures { λ r. ⌜ ofLimited r ≡ limitOf universe «num_vals» rank ⌝ }
+{
+    if num_vals == 0 {
+        return Limited::Refused(Refusal::NoValues);
+    }
+    if num_vals > MAX_VALS {
+        return Limited::Refused(Refusal::TooMany);
+    }
+    let s = of_record(universe, num_vals);
+    Limited::Words(limit_of(s, num_vals as usize, rank))
 }
 
 // Begins a record of up to `num_vals` values below `universe` (document 01: a start).
