@@ -52,7 +52,7 @@ module _ (u n : ℕ) (lent : List ℕ) (begun : Begun u n lent) where
   room : Room u n lent
   room = record { small = begun .a-universe; some = begun .some; most = begun .most; long = begun .long; words = begun .words }
 
-  fits-none : Fits u n []
+  pub fits-none : Fits u n []
   fits-none = filled.fits-none u n lent room
 
   start : newOf u n lent ≡ openBook u n lent done []
@@ -114,6 +114,9 @@ module _ (u n : ℕ) (lent : List ℕ) (begun : Begun u n lent) where
 
   push-step : (T : List ℕ) (t : ℕ) → Fits u n T → Pushes T t
   push-step T t f = push-by T t f (ltb t (lastOf T)) (leb u t) (eqb (length T) n) refl refl refl
+
+  pub after-fits : (T : List ℕ) (t : ℕ) → Fits u n T → Fits u n (after u n lent T t)
+  after-fits T t f = push-step T t f .fits
 
   -- ---- a build
 

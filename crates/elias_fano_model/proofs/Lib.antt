@@ -1,6 +1,7 @@
 pub mod Asking
 pub mod Book
 pub mod Claims
+pub mod Memory
 pub mod Others
 pub mod Running
 pub mod Shown
