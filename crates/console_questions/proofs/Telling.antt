@@ -9,11 +9,12 @@ use lib.ListN.{take, replicate}
 use borrow.Author.Tests.{leb-true, lt-ltb, le-ltb, eq-eqb, ne-eqb}
 use Rattle.broadword.proofs.Truth.{true-false}
 use Rattle.elias_fano.specs.Accept.{openOf}
+use Rattle.elias_fano.specs.Steps.{limitOf}
 use Rattle.elias_fano.specs.Ask.{Select, Delta, Rank, Predecessor, Successor, Binsearch, BinsearchRange, Len, Universe, HasRank, query}
 use Rattle.console_text.specs.declared.line.Arguments.{Arguments}
 use Rattle.console_text.specs.Gathered.{Gathered, withSays}
 use Rattle.console_text.specs.Says.{answers, bad, unknown}
-use Rattle.console_questions.specs.Questions.{openSays, headerOf, numberedOf, oneOf, askOf, takesOf, commandOf, walkOf, readOf, fitsListOf, listedOf}
+use Rattle.console_questions.specs.Questions.{openSays, headerOf, numberedOf, oneOf, askOf, takesOf, limitSays, commandOf, walkOf, readOf, fitsListOf, listedOf}
 
 module _ (k : ℕ) (i : List ℕ) where
   pub header-open : k ≡ 0 → headerOf k i ≡ answers (openSays (openOf i))
@@ -104,17 +105,21 @@ module _ (k : ℕ) (r : Arguments) (i : List ℕ) where
   unfolding askOf
   ask-range h = simp (le-ltb k 4 (omega arith), le-ltb k 10 h)
 
-  pub command-unknown : 10 < k → commandOf k r i ≡ unknown
+  pub command-unknown : 11 < k → commandOf k r i ≡ unknown
   unfolding commandOf
-  command-unknown h = simp (lt-ltb 10 k h)
+  command-unknown h = simp (lt-ltb 11 k h)
 
-  pub command-asks : k ≤ 10 → r .n ≡ takesOf k → commandOf k r i ≡ askOf k r i
+  pub command-limit : k ≡ 11 → commandOf k r i ≡ limitSays r
   unfolding commandOf
-  command-asks h e = simp (le-ltb 10 k h, eq-eqb (r .n) (takesOf k) e)
+  command-limit e = rw e
 
-  pub command-bad : k ≤ 10 → (r .n ≡ takesOf k → ⊥) → commandOf k r i ≡ bad
+  pub command-asks : k ≤ 11 → (k ≡ 11 → ⊥) → r .n ≡ takesOf k → commandOf k r i ≡ askOf k r i
   unfolding commandOf
-  command-bad h e = simp (le-ltb 10 k h, ne-eqb (r .n) (takesOf k) e)
+  command-asks h d e = simp (le-ltb 11 k h, ne-eqb k 11 d, eq-eqb (r .n) (takesOf k) e)
+
+  pub command-bad : k ≤ 11 → (k ≡ 11 → ⊥) → (r .n ≡ takesOf k → ⊥) → commandOf k r i ≡ bad
+  unfolding commandOf
+  command-bad h d e = simp (le-ltb 11 k h, ne-eqb k 11 d, ne-eqb (r .n) (takesOf k) e)
 
   module _ (g : Gathered) where
     pub listed-bad : fitsListOf r ≡ false → listedOf k r i g ≡ withSays g bad
@@ -128,3 +133,18 @@ module _ (k : ℕ) (r : Arguments) (i : List ℕ) where
     pub listed-read : fitsListOf r ≡ true → (k ≡ 6 → ⊥) → listedOf k r i g ≡ readOf i (r .a) (r .b) g
     unfolding listedOf
     listed-read e f = ap (λ (b : Bool). cond b (cond (eqb k 6) (walkOf i (r .a) (r .b) g) (readOf i (r .a) (r .b) g)) (withSays g bad)) e ∙ simp (ne-eqb k 6 f)
+
+-- ---- `limit U N C`
+
+module _ (r : Arguments) where
+  pub limit-says : r .n ≡ 3 → r .c < 2 → limitSays r ≡ answers (limitOf (r .a) (r .b) (eqb (r .c) 1))
+  unfolding limitSays
+  limit-says e h = simp (eq-eqb (r .n) 3 e, lt-ltb (r .c) 2 h)
+
+  pub limit-no-choice : r .n ≡ 3 → 2 ≤ r .c → limitSays r ≡ bad
+  unfolding limitSays
+  limit-no-choice e h = simp (eq-eqb (r .n) 3 e, le-ltb (r .c) 2 h)
+
+  pub limit-other-number : (r .n ≡ 3 → ⊥) → limitSays r ≡ bad
+  unfolding limitSays
+  limit-other-number e = simp (ne-eqb (r .n) 3 e)

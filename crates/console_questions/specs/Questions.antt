@@ -8,6 +8,7 @@ use lib.ListN.{getD, drop, replicate}
 use Rattle.errors.specs.Answer.{Answer, value, none, done, refused, Outcome}
 use Rattle.elias_fano.specs.Accept.{Opening, parts, unopened, openOf, accepted}
 use Rattle.elias_fano.specs.Ask.{Select, Delta, Rank, Predecessor, Successor, Binsearch, BinsearchRange, Next, Len, Universe, HasRank, Question, nth, query, readFromOf}
+use Rattle.elias_fano.specs.Steps.{limitOf}
 use Rattle.weekly_windows.specs.Windows.{countOf}
 use Rattle.console_text.specs.declared.line.Arguments.{Arguments}
 use Rattle.console_text.specs.Gathered.{Gathered, withByte, withNumber, withList, withAnswer, withSays}
@@ -44,16 +45,23 @@ oneOf k a i = answers (query i (numberedOf k a))
 unfoldable pub askOf : ℕ → Arguments → List ℕ → Says
 askOf k r i = cond (ltb k 4) (headerOf k i) (cond (ltb k 10) (oneOf k (r .a) i) (answers (query i (BinsearchRange (r .a) (r .b) (r .c)))))
 
--- "open len universe has_rank select delta rank predecessor successor search search_range"
-unfoldable pub commands : List ℕ
-commands = 111 ∷ 112 ∷ 101 ∷ 110 ∷ 32 ∷ 108 ∷ 101 ∷ 110 ∷ 32 ∷ 117 ∷ 110 ∷ 105 ∷ 118 ∷ 101 ∷ 114 ∷ 115 ∷ 101 ∷ 32 ∷ 104 ∷ 97 ∷ 115 ∷ 95 ∷ 114 ∷ 97 ∷ 110 ∷ 107 ∷ 32 ∷ 115 ∷ 101 ∷ 108 ∷ 101 ∷ 99 ∷ 116 ∷ 32 ∷ 100 ∷ 101 ∷ 108 ∷ 116 ∷ 97 ∷ 32 ∷ 114 ∷ 97 ∷ 110 ∷ 107 ∷ 32 ∷ 112 ∷ 114 ∷ 101 ∷ 100 ∷ 101 ∷ 99 ∷ 101 ∷ 115 ∷ 115 ∷ 111 ∷ 114 ∷ 32 ∷ 115 ∷ 117 ∷ 99 ∷ 99 ∷ 101 ∷ 115 ∷ 115 ∷ 111 ∷ 114 ∷ 32 ∷ 115 ∷ 101 ∷ 97 ∷ 114 ∷ 99 ∷ 104 ∷ 32 ∷ 115 ∷ 101 ∷ 97 ∷ 114 ∷ 99 ∷ 104 ∷ 95 ∷ 114 ∷ 97 ∷ 110 ∷ 103 ∷ 101 ∷ []
+-- `limit U N C` needs no image
+unfoldable pub limitSays : Arguments → Says
+limitSays r = cond (eqb (r .n) 3 && ltb (r .c) 2) (answers (limitOf (r .a) (r .b) (eqb (r .c) 1))) bad
 
--- how many numbers each takes
+-- "open len universe has_rank select delta rank predecessor successor search search_range limit"
+unfoldable pub commands : List ℕ
+commands = 111 ∷ 112 ∷ 101 ∷ 110 ∷ 32 ∷ 108 ∷ 101 ∷ 110 ∷ 32 ∷ 117 ∷ 110 ∷ 105 ∷ 118 ∷ 101 ∷ 114 ∷ 115 ∷ 101 ∷ 32 ∷ 104 ∷ 97 ∷ 115 ∷ 95 ∷ 114 ∷ 97 ∷ 110 ∷ 107 ∷ 32 ∷ 115 ∷ 101 ∷ 108 ∷ 101 ∷ 99 ∷ 116 ∷ 32 ∷ 100 ∷ 101 ∷ 108 ∷ 116 ∷ 97 ∷ 32 ∷ 114 ∷ 97 ∷ 110 ∷ 107 ∷ 32 ∷ 112 ∷ 114 ∷ 101 ∷ 100 ∷ 101 ∷ 99 ∷ 101 ∷ 115 ∷ 115 ∷ 111 ∷ 114 ∷ 32 ∷ 115 ∷ 117 ∷ 99 ∷ 99 ∷ 101 ∷ 115 ∷ 115 ∷ 111 ∷ 114 ∷ 32 ∷ 115 ∷ 101 ∷ 97 ∷ 114 ∷ 99 ∷ 104 ∷ 32 ∷ 115 ∷ 101 ∷ 97 ∷ 114 ∷ 99 ∷ 104 ∷ 95 ∷ 114 ∷ 97 ∷ 110 ∷ 103 ∷ 101 ∷ 32 ∷ 108 ∷ 105 ∷ 109 ∷ 105 ∷ 116 ∷ []
+
+-- how many numbers each takes that is asked of the image
 abbrev pub takesOf : ℕ → ℕ
 takesOf k = cond (ltb k 4) 0 (cond (ltb k 10) 1 3)
 
 unfoldable pub commandOf : ℕ → Arguments → List ℕ → Says
-commandOf k r i = cond (ltb 10 k) unknown (cond (eqb (r .n) (takesOf k)) (askOf k r i) bad)
+commandOf k r i =
+    cond (ltb 11 k) unknown
+    (cond (eqb k 11) (limitSays r)
+    (cond (eqb (r .n) (takesOf k)) (askOf k r i) bad))
 
 abbrev pub answerOf : List ℕ → Arguments → List ℕ → Says
 answerOf name r i = commandOf (placeAmong (wordsIn commands) name) r i

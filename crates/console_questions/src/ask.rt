@@ -3,10 +3,11 @@ ghost use mathlib.Core.Path.{_≡_};
 ghost use Rattle.elias_fano.specs.Accept.{ofOpened, ofNumber, ofValue};
 ghost use Rattle.elias_fano_queries.specs.Truth.{ofTruth};
 ghost use Rattle.console_text.specs.Says.{answers, saysOf};
-ghost use Rattle.console_questions.specs.Questions.{openSays, headerOf, oneOf, askOf};
+ghost use Rattle.console_questions.specs.Questions.{openSays, headerOf, oneOf, askOf, limitSays};
 use console_text::line;
 use console_text::line::Arguments;
 use console_text::output::Reply;
+use elias_fano::builder;
 use elias_fano::image;
 use elias_fano::image::Number;
 use elias_fano::image::Opened;
@@ -98,4 +99,17 @@ pub fn answer(k: usize, r: Arguments, words: &[u64]) -> Reply
         return of_number(k, r.a, words);
     }
     number(search::binsearch_range(words, line::size(r.a), line::size(r.b), r.c))
+}
+
+// `limit U N C`, which needs no image.
+pub fn limit(r: Arguments) -> Reply
+    ensures { λ t. ⌜ saysOf t ≡ limitSays r ⌝ }
+{
+    if r.n != 3 {
+        return Reply::Bad;
+    }
+    if r.c >= 2 {
+        return Reply::Bad;
+    }
+    number(builder::limit(r.a, r.b, r.c == 1))
 }

@@ -1,4 +1,4 @@
-// The console's questions over the image of a record.
+// The console's questions over the image of a record, and how many words are enough for one.
 ghost use mathlib.Core.Path.{_≡_};
 ghost use Rattle.console_text.specs.Gathered.{gathered};
 ghost use Rattle.console_text.specs.Says.{saysOf};
@@ -14,7 +14,7 @@ use console_text::line::Arguments;
 use console_text::output;
 use console_text::output::Reply;
 
-// How many numbers each question takes, in the order of the list in `answer`.
+// How many numbers each question of the image takes, in the order of the list in `answer`.
 fn takes(k: usize) -> usize
     ensures { λ t. ⌜ t ≡ takesOf k ⌝ }
 {
@@ -32,11 +32,14 @@ pub fn answer(name: &[u8], r: Arguments, image: &[u64]) -> Reply
     ensures { λ t. ⌜ saysOf t ≡ answerOf (now (name .entry)) r (now (image .entry)) ⌝ }
 {
     let k = line::place_in(
-        b"open len universe has_rank select delta rank predecessor successor search search_range",
+        b"open len universe has_rank select delta rank predecessor successor search search_range limit",
         name,
     );
-    if 10 < k {
+    if 11 < k {
         return Reply::Unknown;
+    }
+    if k == 11 {
+        return ask::limit(r);
     }
     if r.n == takes(k) {
         return ask::answer(k, r, image);

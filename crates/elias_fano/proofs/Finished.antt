@@ -341,8 +341,8 @@ module _ (b : Builder) (w : List ℕ) (f : Holding b w) where
                     let D : List ℕ = drop (length (imageOf b c w)) w in
                     let X : List ℕ = (ones ++ zeros) ++ D in
                     let B : drop 6 w₂ ≡ bits ++ X =
-                        ap (drop 6) (words-2 ∙ ap (λ (A : List ℕ). A ++ X) front-2 ∙ append-assoc (take 6 w) bits X)
-                        ∙ drop-at (take 6 w) (bits ++ X) 6 (length-take-le 6 w (let z = ends in omega arith)) in
+                    ap (drop 6) (words-2 ∙ ap (λ (A : List ℕ). A ++ X) front-2 ∙ append-assoc (take 6 w) bits X)
+                    ∙ drop-at (take 6 w) (bits ++ X) 6 (length-take-le 6 w (let z = ends in omega arith)) in
                     e₃ ∙ (λ x. u ∷ n ∷ m ∷ flag c ∷ ones-over x ∷ zeros-over x ∷ B x)
                     ∙ ap (λ (R : List ℕ). header ++ R) (sym (append-assoc bits (ones ++ zeros) D))
                     ∙ ap (λ (I : List ℕ). I ++ D) (sym image-is)

@@ -8,8 +8,6 @@ use Rattle.elias_fano.specs.declared.builder.Pushed.{Pushed}
 use Rattle.elias_fano.specs.declared.builder.Pushed.the-variants as pushed
 use Rattle.elias_fano.specs.declared.builder.Built.{Built}
 use Rattle.elias_fano.specs.declared.builder.Built.the-variants as built
-use Rattle.elias_fano.specs.declared.builder.Limited.{Limited}
-use Rattle.elias_fano.specs.declared.builder.Limited.the-variants as limited
 
 pub record Made : Type 0 where
   pub answer : Answer
@@ -40,7 +38,3 @@ ofBuilt b (built.Refused e) w = made (refused (numberOf e)) b w
 abbrev pub builtAnswer : Built → Answer
 builtAnswer (built.Words k) = value k
 builtAnswer (built.Refused e) = refused (numberOf e)
-
-abbrev pub ofLimited : Limited → Answer
-ofLimited (limited.Words k) = value k
-ofLimited (limited.Refused e) = refused (numberOf e)

@@ -4,11 +4,13 @@
 // be any: one that no run could hold is refused.
 ghost use mathlib.Core.Path.{_≡_};
 ghost use lib.ListN.{length};
-ghost use Rattle.elias_fano.specs.Made.{nobody, ofPushed, ofBuilt, ofLimited};
+ghost use Rattle.elias_fano.specs.Accept.{ofNumber};
+ghost use Rattle.elias_fano.specs.Made.{nobody, ofPushed, ofBuilt};
 ghost use Rattle.elias_fano.specs.Steps.{limitOf, newOf, sound, filed, pushOf, intact, buildOf};
 ghost use Rattle.elias_fano.specs.Testing.{TestsNew, Roomy, TestsBuilder, Fileable, TestsPush, TestsBuild};
 use crate::finish::has_room;
 use crate::finish::write_image;
+use crate::image::Number;
 use bit_words::WORD_LEN;
 use bit_words::fill;
 use bit_words::put_bits;
@@ -41,12 +43,6 @@ pub enum Built {
     Refused(Refusal),
 }
 
-// How many words are enough.
-pub enum Limited {
-    Words(usize),
-    Refused(Refusal),
-}
-
 // What the tests of a call find: the sizes of the record, or a refusal.
 enum Tested {
     Passed(Sizes),
@@ -54,17 +50,17 @@ enum Tested {
 }
 
 // How many words are enough for every record of these settings: in so many no start, push or build without or, as `rank` says, with the rank index is refused for the length of its words.
-pub fn limit(universe: u64, num_vals: u64, rank: bool) -> Limited
-    ensures { λ r. ⌜ ofLimited r ≡ limitOf universe «num_vals» rank ⌝ }
+pub fn limit(universe: u64, num_vals: u64, rank: bool) -> Number
+    ensures { λ r. ⌜ ofNumber r ≡ limitOf universe «num_vals» rank ⌝ }
 {
     if num_vals == 0 {
-        return Limited::Refused(Refusal::NoValues);
+        return Number::Refused(Refusal::NoValues);
     }
     if num_vals > MAX_VALS {
-        return Limited::Refused(Refusal::TooMany);
+        return Number::Refused(Refusal::TooMany);
     }
     let s = of_record(universe, num_vals);
-    Limited::Words(limit_of(s, num_vals as usize, rank))
+    Number::Is(limit_of(s, num_vals as usize, rank))
 }
 
 // Begins a record of up to `num_vals` values below `universe` (document 01: a start).

@@ -6,7 +6,7 @@
 ghost use mathlib.Core.Path.{_≡_};
 ghost use Rattle.elias_fano.specs.Accept.{openOf};
 ghost use Rattle.elias_fano.specs.Made.{made};
-ghost use Rattle.elias_fano.specs.Steps.{newOf, pushOf, buildOf};
+ghost use Rattle.elias_fano.specs.Steps.{limitOf, newOf, pushOf, buildOf};
 ghost use Rattle.elias_fano_from_bits.specs.FromBits.{fromBitsOf};
 ghost use Rattle.ffi.specs.Answers.{ofBuilder, ofRefusal, efAnswer, efOpened, Told};
 
@@ -17,6 +17,7 @@ mod sums;
 mod tell;
 
 use crate::tell::tell_built;
+use crate::tell::tell_number;
 use elias_fano::builder;
 use elias_fano::builder::Builder;
 use elias_fano::builder::Pushed;
@@ -90,6 +91,14 @@ fn told(b: EfBuilder, p: Pushed) -> EfPushed
             builder: b,
         },
     }
+}
+
+// How many words are enough for every record of these settings, or a refusal.
+#[no_mangle]
+pub extern "C" fn ef_limit(universe: u64, num_vals: u64, rank: bool) -> EfAnswer
+    ensures { λ r. ⌜ r ≡ efAnswer (limitOf universe «num_vals» rank) ⌝ }
+{
+    tell_number(builder::limit(universe, num_vals, rank))
 }
 
 // Begins a record.
