@@ -55,8 +55,13 @@ def bits_of(word):
     return [word >> i & 1 for i in range(64)]
 
 
+def groups(count, size):
+    """How many groups of this size hold so many; the last may not be full."""
+    return count // size + (count % size != 0)
+
+
 def used_words(length):
-    return length // 64 + (length % 64 != 0)
+    return groups(length, 64)
 
 
 def places(bits, b):
@@ -82,6 +87,11 @@ def select_index(positions):
             lanes += [65_535 for _ in sampled]
             overflow += block
     return entries, lanes, overflow
+
+
+def index_words(count):
+    """The words of entries and lanes of the select index over so many positions."""
+    return groups(count, BLOCK) + groups(groups(count, SUBBLOCK), 4)
 
 
 class Walk:
@@ -133,6 +143,10 @@ class Settings:
         self.low_at = HEAD + self.high_words
         self.start = self.low_at + used_words(n * self.l)
 
+    def limit(self, rank):
+        """The limit on the image's length: the start's size, and each index held with all the positions there can be and H / 64 of them in its overflow."""
+        return self.start + sum(index_words(count) + self.high // 64 for count in ((self.n, self.high) if rank else (self.n,)))
+
     def image(self, rank, times):
         high, low = [0] * self.high, []
         for k, t in enumerate(times):
@@ -158,6 +172,15 @@ class Settings:
         if any(t >= self.u for t in times) or times != sorted(times):
             return None
         return times
+
+
+def declared(u, n):
+    """The settings, if the count is one that may be declared: 1, then 2."""
+    if n == 0:
+        raise Refused(1)
+    if n > MOST:
+        raise Refused(2)
+    return Settings(u, n)
 
 
 class Record:
@@ -200,12 +223,11 @@ class Record:
     def builder(self):
         return list(self.made)
 
+    def limit(self, u, n, rank):
+        return declared(u, n).limit(rank)
+
     def start(self, u, n):
-        if n == 0:
-            raise Refused(1)
-        if n > MOST:
-            raise Refused(2)
-        size = Settings(u, n).start
+        size = declared(u, n).start
         if size > len(self.lent):
             raise Refused(3)
         self.lent[:size] = [0] * size
@@ -683,6 +705,7 @@ RECORD = {
     "image": (number,),
     "words": (),
     "builder": (),
+    "limit": (number, number, choice),
     "start": (number, number),
     "reading": (number,),
     "finish": (choice,),
@@ -717,7 +740,7 @@ SPARSE = {
     "sarray_successor1": (number,),
 }
 
-# All that is over the buffer.
+# All that is over the buffer, and the limit, which is of settings alone.
 ON_BUFFER = {**RECORD, **SPARSE}
 
 

@@ -2,7 +2,9 @@
 
 The Rust has no image: an image that the model accepts, or that a call writes, is compared word for word with what the Rust
 builds of the same settings and times (`parts`), and each question over it with the Rust's. It has no reading out: a walk of as many steps is
-asked for it. It has no weekly windows: the times of its walk are counted here, in another way than the model's. It has a builder: a start, and
+asked for it. It has no weekly windows: the times of its walk are counted here, in another way than the model's. It has no limit: the limit is
+reckoned here, in another way than the model's, of the high bits and the width of the low bits of its record of no times; and each image of
+the Rust, and each refusal with 3, is held against the limit. It has a builder: a start, and
 readings and a finish while nothing but calls has altered the record since, are asked as they come. A record from bits or of prefix sums is asked as
 it comes, over the same bits, and so is a sparse vector from bits. Where the model takes length, choice and image for another sparse vector, the
 Rust's is put together of them, and each question asked.
@@ -11,8 +13,8 @@ Rust's is put together of them, and each question asked.
 import sys
 from bisect import bisect_left
 
-from model import BUFFER, HEAD, MOST, ON_BUFFER, SPARSE, TOP, WEEK, Console, Refused, Settings
-from rust import ask, image
+from model import BLOCK, BUFFER, HEAD, MOST, ON_BUFFER, SPARSE, SUBBLOCK, TOP, WEEK, Console, Refused, Settings
+from rust import ask, high_length, image
 
 MAX = TOP - 1
 
@@ -25,6 +27,9 @@ ITEMS = ("sums_access", "sums_walk", "sums_len")
 # A record by one call, and what alters the bits that one of them is of.
 WHOLE = ("from_bits", "sums")
 BITS = ("bits", "from_bit", "set_bit", "push_bit", "push_bits")
+
+# The counts whose limit is held against the Rust; it takes a second to build the record of a large one.
+SMALL = 2**17
 
 # Worked examples of the document, with the answers that it gives.
 
@@ -234,12 +239,22 @@ def in_windows(times, s, e, words):
     return count
 
 
+def limit_by(parts, rank):
+    """The limit for the settings of a record, by the Rust's high bits and width of the low bits: each index as it is over the places from 0 on, and H / 64 words more."""
+    numbers, high, *_ = parts.split(" ; ")
+    _, n, _, _, width = map(int, numbers.split(" "))
+    limit = HEAD + len(high.split(" ")[2:]) + len(range(0, n * width, 64))
+    for places in (range(n), range(high_length(parts))) if rank else (range(n),):
+        limit += len(places[::BLOCK]) + len(places[::SUBBLOCK][::4]) + high_length(parts) // 64
+    return limit
+
+
 class Case:
     """A call that the Rust has: what the model answered, where the Rust's answer stands, and what the image is to be."""
 
-    def __init__(self, line, name, model, at, words=None, times=None, universe=None):
+    def __init__(self, line, name, model, at, words=None, times=None, universe=None, choice=None):
         self.line, self.name, self.model, self.at, self.words = line, name, model, at, words
-        self.times, self.empty, self.universe = times, times == [], universe
+        self.times, self.empty, self.universe, self.choice = times, times == [], universe, choice
         self.rust = None
 
     def same_time(self):
@@ -266,9 +281,17 @@ class Case:
             *times, end = self.rust.split(" ")
             s, e, *words = (int(word.lstrip("0") or 0) for word in self.line.split(" ")[1:])
             return end == "none" and self.model == str(in_windows(list(map(int, times)), s, e, words))
+        if self.name == "limit":
+            return self.model == str(limit_by(self.rust, self.choice))
         if self.name in ("finish", "sarray_from_bits", *WHOLE) and self.model.isdigit():
             return self.rust == "ok"
         return self.model == self.rust
+
+    def bounded(self):
+        """Of an image that agrees: H is at most 3 n + 1, each overflow at most H / 64, and the length at most the limit."""
+        u, n, _, rank, *overflows = self.words[:HEAD]
+        high = high_length(self.rust)
+        return high <= 3 * n + 1 and max(overflows) <= high // 64 and len(self.words) <= Settings(u, n).limit(rank)
 
 
 def made(u, n, times):
@@ -374,9 +397,30 @@ class Sparses(Wholes):
         self.sent.append("sarray_parts")
 
 
+class Limits:
+    """Limits, of the record of no times."""
+
+    def __init__(self):
+        self.sent, self.cases = [], []
+
+    def ask(self, line, name, answer, u, n, choice):
+        if n <= SMALL:
+            self.sent += [*made(u, n, ()), "finish 0", "parts"]
+            self.cases.append(Case(line, name, answer, len(self.sent) - 1, choice=choice))
+
+
+def limit_of(console, name, args):
+    """The limit for the settings of a call that may draw 3; without the rank choice for a start and a reading."""
+    if name == "sums":
+        return Settings(1 + sum(args[0]), len(args[0])).limit(0)
+    u, n = args if name == "start" else console.record.made[:2] if name in ("reading", "finish") else (console.length, console.num_ones())
+    return Settings(u, n).limit(0 if name in ("start", "reading") else args[0])
+
+
 def compare(oracle, lines):
-    """How often each difference was seen, and how many calls agree of how many."""
-    console, builders, images, wholes, sparses = Console(), Builders(), Images(), Wholes(), Sparses()
+    """How often each difference was seen, how many calls agree of how many, and how many images and refusals with 3 were held against the limit."""
+    console, builders, images, wholes, sparses, limits = Console(), Builders(), Images(), Wholes(), Sparses(), Limits()
+    short = 0
     for raw in lines:
         line = raw.decode("latin-1")
         name, record = line.split(" ")[0], console.record
@@ -388,6 +432,13 @@ def compare(oracle, lines):
         answer = console.line(raw)
         if answer == "bad command":
             continue
+        if answer == "refused 3":
+            short += 1
+            limit = limit_of(console, *console.parse(raw))
+            if len(record.lent) >= limit:
+                sys.exit(f"{line[:200]}: {answer} in {len(record.lent)} words, and the limit is {limit}")
+        if name == "limit" and answer.isdigit():
+            limits.ask(line, name, answer, *console.parse(raw)[1])
         if name in ("start", "reading", "finish"):
             builders.ask(line, name, answer, before)
         if name in WHOLE:
@@ -397,21 +448,25 @@ def compare(oracle, lines):
         refused = answer == "refused 7" if name in ASKED else answer.startswith("refused")
         if name in ("finish", "open", "windows", *ASKED, *ITEMS) and not refused:
             images.ask(line, name, answer, record)
-    seen, agreed, asked = [0] * len(DIFFERENCES), 0, 0
-    for stream in (builders, images, wholes, sparses):
+    seen, agreed, asked, held = [0] * len(DIFFERENCES), 0, 0, 0
+    for stream in (builders, images, wholes, sparses, limits):
         told = ask(oracle, stream.sent)
         for case in stream.cases:
             case.rust = told[case.at]
             asked += 1
             if case.agrees():
                 agreed += 1
+                if case.words is not None:
+                    held += 1
+                    if not case.bounded():
+                        sys.exit(f"{case.line[:200]}: an image of {len(case.words)} words, {case.words[:HEAD]} and so on, is over a bound")
                 continue
             kinds = [i for i, (_, _, holds) in enumerate(DIFFERENCES) if holds(case)]
             if len(kinds) != 1:
                 names = [DIFFERENCES[i][0] for i in kinds]
                 sys.exit(f"{case.line[:200]}: a difference with {len(kinds)} names {names}\n  model {case.model[:200]}\n  Rust  {case.rust[:200]}")
             seen[kinds[0]] += 1
-    return seen, agreed, asked
+    return seen, agreed, asked, held, short
 
 
 def hold(text):
@@ -427,7 +482,7 @@ def check_examples(oracle):
     """The worked examples hold in the model, and each difference at its smallest input."""
     hold(EXAMPLES)
     for i, (name, smallest, _) in enumerate(DIFFERENCES):
-        seen, agreed, asked = compare(oracle, [line.encode() for line in smallest])
+        seen, agreed, asked, *_ = compare(oracle, [line.encode() for line in smallest])
         if name == ONLY_IN_DEBUG and agreed == asked:
             continue
         if (sum(seen), seen[i], agreed) != (1, 1, asked - 1):

@@ -30,3 +30,8 @@ def image(parts):
         words += far
         overflow.append(len(far))
     return [u, n, m, rank, *overflow, *([0] * (2 - len(overflow))), *words]
+
+
+def high_length(parts):
+    """The number of the record's high bits, from the same."""
+    return int(parts.split(" ; ")[1].split(" ")[0])

@@ -18,6 +18,7 @@ from itertools import groupby
 sys.dont_write_bytecode = True
 import documented
 import from_bits
+import limits
 import questions
 import records
 import sarrays
@@ -1055,6 +1056,7 @@ def make(seed, count):
         add(line)
     sarrays.add_sarrays(add, count // 50)
     windows.add_windows(add, count // 25)
+    limits.add_limits(add, count // 10)
     add.note("the last line lacks its line feed")
     add("dump")
     return add.lines
@@ -1080,8 +1082,8 @@ def exhaustive():
 
 
 def together(a, b):
-    """Two counts of differences, agreed and asked calls, added."""
-    return [[x + y for x, y in zip(a[0], b[0])], a[1] + b[1], a[2] + b[2]]
+    """Two counts of differences, agreed and asked calls, and more, added."""
+    return [[x + y for x, y in zip(a[0], b[0])], *(x + y for x, y in zip(a[1:], b[1:]))]
 
 
 def main():
@@ -1102,7 +1104,7 @@ def main():
     check_examples(oracle)
     records.check_examples(oracle)
     questions.check_examples()
-    for table in (sums.EXAMPLES, from_bits.EXAMPLES, sarrays.EXAMPLES, windows.EXAMPLES):
+    for table in (sums.EXAMPLES, from_bits.EXAMPLES, sarrays.EXAMPLES, windows.EXAMPLES, limits.EXAMPLES):
         records.hold(table)
     windows.check_counts()
     held, others = documented.check()
@@ -1113,7 +1115,7 @@ def main():
     record = records.compare(oracle, lines)
     if args.exhaustive:
         bits = together(bits, compare(oracle, exhaustive())[1:])
-        for section in (records, questions, sums, from_bits, sarrays, windows):
+        for section in (records, questions, sums, from_bits, sarrays, windows, limits):
             record = together(record, records.compare(oracle, section.exhaustive()))
     written = [a for a in answers if a is not None]
     if not args.exhaustive:
@@ -1126,10 +1128,12 @@ def main():
 
     print(f"{held} assertions of the Rust's doc comments hold, {others} are of calls that are not ported")
     print(f"{len(lines)} lines, {len(written)} answers, {written.count('bad command')} of them bad commands")
-    for differences, (seen, agreed, asked) in ((DIFFERENCES, bits), (records.DIFFERENCES, record)):
+    for differences, (seen, agreed, asked, *_) in ((DIFFERENCES, bits), (records.DIFFERENCES, record)):
         print(f"{asked} calls asked of the Rust, {agreed} agree, {sum(seen)} differ:")
         for (name, smallest, _), count in zip(differences, seen):
             print(f"  {count:6}  {name:52} {' / '.join(counted(smallest))}")
+    *_, images, short = record
+    print(f"{images} images of the Rust are within their limit, and {short} refusals with 3 are of a buffer below it")
 
 
 def counted(lines):
