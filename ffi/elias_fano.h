@@ -8,15 +8,16 @@
  * read. Words that a call writes must not be among those that it reads. Two calls may run at once where neither writes words that the other
  * uses.
  *
- * How long a buffer must be, in words. u is the universe, n num_vals, m num_pushed; / rounds down, ceil rounds up.
- *    l        = the place of the highest one of u / n, 0 if u / n is 0
- *    H        = n + 2 + u / 2^l                                 (at most 3 * n + 1)
- *    start    = 6 + ceil(H / 64) + ceil(n * l / 64)             what ef_new zeroes; a shorter buffer is refused with 3
- *    index(P) = ceil(P / 1024) + ceil(ceil(P / 32) / 4) + its overflow words, which depend on the values: 1024 * (H / 65537) at most
- *    image    = 6 + ceil(H / 64) + ceil(m * l / 64) + index(m), and with rank + index(H - m)
- * So start + index(n), with rank + index(H), each with 1024 * (H / 65537) overflow words, is enough for every record of u and n: 50,000
- * values below 157,680,000 (five years of seconds) need 10,585 words to start and at most 14,191 for the image with rank. example.c
- * has these sizes as functions.
+ * How long a buffer must be, in words: ef_limit says how many are enough. In so many, ef_new, ef_push and ef_build draw no 3, whatever values come; that is
+ * proved. u is the universe, n num_vals, m num_pushed; / rounds down, ceil rounds up.
+ *    l           = the place of the highest one of u / n, 0 if u / n is 0
+ *    H           = n + 2 + u / 2^l                                 (at most 3 * n + 1)
+ *    start       = 6 + ceil(H / 64) + ceil(n * l / 64)             what ef_new zeroes; a shorter buffer is refused with 3
+ *    index(P, o) = ceil(P / 1024) + ceil(ceil(P / 32) / 4) + o     over P positions, o of them in its overflow list; how many, H / 64 at most, the values decide
+ *    image       = 6 + ceil(H / 64) + ceil(m * l / 64) + index(m, word 4), and with rank + index(H - m, word 5)
+ *    limit       = start + index(n, H / 64), and with rank + index(H, H / 64)
+ * 50,000 values below 157,680,000 (five years of seconds) need 10,585 words to start, and with rank 16,111 are enough: 128,888 bytes. docs/DATASHEET.md
+ * has a table.
  *
  * The image. Words 0 to 5 are the universe, num_vals, the number of values, 1 with rank or else 0, the overflow words of the index
  * over ones, and those of the index over zeros; then the high words, the low words and the indexes. It is numbers, and the same ones on every
@@ -34,12 +35,12 @@
 extern "C" {
 #endif
 
-/* Refusals. A refused call alters no word, and says why; 0 is no refusal. They are tested in this order: ef_new 1, 2, 3; ef_push 7, 3, 4,
+/* Refusals. A refused call alters no word, and says why; 0 is no refusal. They are tested in this order: ef_limit 1, 2; ef_new 1, 2, 3; ef_push 7, 3, 4,
  * 5, 6; ef_build 7 by the builder's numbers, 3 by the size of the start, 7 by the words, 3 by the image's length; ef_from_bits 13, 10, 11, 2, 3;
  * ef_sarray_from_bits 13, 2, 3; ef_sums_from_slice 2, 12, 3; ef_count_in_windows 7, 17. */
 enum {
-    EF_NO_VALUES = 1,       /* ef_new: num_vals is 0 */
-    EF_TOO_MANY = 2,        /* ef_new: num_vals is over 16,777,216; ef_from_bits, ef_sarray_from_bits, ef_sums_from_slice: more ones or items */
+    EF_NO_VALUES = 1,       /* ef_limit, ef_new: num_vals is 0 */
+    EF_TOO_MANY = 2,        /* ef_limit, ef_new: num_vals is over 16,777,216; ef_from_bits, ef_sarray_from_bits, ef_sums_from_slice: more ones or items */
     EF_SHORT_BUFFER = 3,    /* ef_new, ef_push, ef_build: below the size of the start; all that make an image: below its length */
     EF_DECREASING = 4,      /* ef_push: the value is below the last one */
     EF_OUT_OF_UNIVERSE = 5, /* ef_push: the value is not below the universe */
@@ -76,6 +77,10 @@ typedef struct {
     uint64_t value; /* the value, 0, or the refusal */
 } EfAnswer;
 
+/* How many words are enough for every record of these settings: for its start, each push, and a build without or, as `rank` says, with the rank index (with it,
+ * either). ef_from_bits of so many bits with num_vals ones, and ef_sums_from_slice with a sum of universe - 1, need no more either. Constant time. */
+EfAnswer ef_limit(uint64_t universe, uint64_t num_vals, bool rank);
+
 /* Begins a record. Zeroes the words of the start and leaves the later ones. Constant time and one pass over those words. */
 EfPushed ef_new(uint64_t universe, uint64_t num_vals, uint64_t *buffer, size_t len);
 
@@ -85,6 +90,7 @@ EfPushed ef_push(EfBuilder builder, uint64_t value, uint64_t *buffer, size_t len
 /* Makes an image of the words, with the index that rank needs or without it. The answer is the image's length: it stands in the first
  * words of the buffer, and the later ones stay. The image may be copied and stored: its words are the same for equal settings and values.
  *
+ * In a buffer of ef_limit words or more the image is written at once; in a shorter one its length is measured before, in one pass more over the high bits for each index.
  * Refused with 3, the words are as they were: copy them into a longer buffer and build there with the same builder.
  * Accepted, the builder is done: set it to zeros, or lose it. A push by the old one into these words is not refused, and what it leaves is
  * no image (ef_open says 7). To read a record that goes on, build it in a copy of the words of the start. */

@@ -41,8 +41,11 @@ static uint64_t image_words(const uint64_t *w) {
 
 /* Enough for every record of u and n. */
 static uint64_t enough_words(uint64_t u, uint64_t n, bool rank) {
-    uint64_t high = high_len(u, n), overflow = 1024 * (high / 65537);
-    return start_words(u, n) + index_words(n, overflow) + (rank ? index_words(high, overflow) : 0);
+    EfAnswer limit = ef_limit(u, n, rank);
+    uint64_t high = high_len(u, n), overflow = high / 64;
+    must(limit.kind == EF_VALUE, "a limit");
+    must(limit.value == start_words(u, n) + index_words(n, overflow) + (rank ? index_words(high, overflow) : 0), "the limit, as the header has it");
+    return limit.value;
 }
 
 /* ---- the safe way: once an image is made its builder is all zeros, which every call refuses, so no push can reach the image */
@@ -91,6 +94,7 @@ static void record(void) {
     static const uint64_t expected[] = {20, 4, 4, 1, 0, 0, 77, 67, 0, 0, 1, 0};
     uint64_t buffer[8]; /* a start of u 20, n 4 */
     must(start_words(20, 4) == 8, "the start's size");
+    must(ef_limit(20, 0, true).value == EF_NO_VALUES && ef_limit(20, 16777217, true).value == EF_TOO_MANY, "a limit that is refused");
     must(ef_new(20, 0, buffer, 8).refusal == EF_NO_VALUES, "no values");
     must(ef_new(20, 16777217, buffer, 8).refusal == EF_TOO_MANY, "too many values");
     must(ef_new(20, 4, buffer, 7).refusal == EF_SHORT_BUFFER, "a short buffer");
@@ -131,6 +135,25 @@ static void record(void) {
     must(ef_select(longer, 12, 4).kind == EF_NONE, "none after the last");
     longer[6] ^= 1;
     must(ef_select(longer, 12, 0).kind == EF_REFUSED && ef_select(longer, 12, 0).value == EF_INVALID, "a changed image");
+}
+
+/* A box that sizes its buffer before the first start, and draws no 3: readings good and bad, until it is full. */
+static void sized(uint64_t u, uint64_t n, bool rank) {
+    uint64_t len = enough_words(u, n, rank), *buffer = words(len), last = 0;
+    EfPushed p = ef_new(u, n, buffer, len);
+    must(p.refusal == 0, "a start in the limit");
+    while (p.builder.num_pushed < n) {
+        uint64_t value = p.builder.num_pushed % 3 == 0 ? last : last + (u - last) / 4096;
+        must(ef_push(p.builder, u, buffer, len).refusal == EF_OUT_OF_UNIVERSE, "a value past the universe");
+        p = ef_push(p.builder, value, buffer, len);
+        must(p.refusal == 0, "a push in the limit");
+        last = value;
+    }
+    must(ef_push(p.builder, last, buffer, len).refusal == EF_FULL, "a full record");
+    EfAnswer built = finish(&p.builder, rank, buffer, len);
+    must(built.kind == EF_VALUE && built.value <= len && ef_open(buffer, built.value) == 0, "a build in the limit");
+    must(ef_select(buffer, built.value, n - 1).value == last, "its last value");
+    free(buffer);
 }
 
 /* A record is read while it goes on: an image is made in a copy. Without the copy, the next push spoils the image. */
@@ -418,6 +441,9 @@ int main(void) {
     sizes(131072, 65536, 2, 131071, true);
     sizes(157680000, 50000, 50000, 3153, true);
     sizes(157680000, 50000, 49, 3153000, false);
+    sized(20, 4, true);
+    sized(157680000, 50000, true);
+    sized(157680000, 50000, false);
     puts("C: all as expected");
     return 0;
 }

@@ -65,6 +65,7 @@ fn refusal(number: u64) -> Refusal {
 }
 
 extern "C" {
+    fn ef_limit(universe: u64, num_vals: u64, rank: bool) -> EfAnswer;
     fn ef_new(universe: u64, num_vals: u64, buffer: *mut u64, len: usize) -> EfPushed;
     fn ef_push(builder: EfBuilder, value: u64, buffer: *mut u64, len: usize) -> EfPushed;
     fn ef_build(builder: EfBuilder, rank: bool, buffer: *mut u64, len: usize) -> EfAnswer;
@@ -163,6 +164,10 @@ fn binsearch_range(image: &[u64], a: usize, b: usize, value: u64) -> Answer {
 
 fn read_from(image: &[u64], k: usize, out: &mut [u64]) -> Answer {
     answer(unsafe { ef_read_from(image.as_ptr(), image.len(), k, out.as_mut_ptr(), out.len()) })
+}
+
+fn limit(universe: u64, num_vals: u64, rank: bool) -> Result<usize, Refusal> {
+    Ok(answer(unsafe { ef_limit(universe, num_vals, rank) })?.expect("a number of words") as usize)
 }
 
 fn new(universe: u64, num_vals: u64, buffer: &mut [u64]) -> Result<EfBuilder, Refusal> {
@@ -475,7 +480,9 @@ fn main() {
     assert_eq!(build(forged.clone(), true, &mut buffer), Err((Refusal::Invalid, forged)));
     let Err((Refusal::ShortBuffer, b)) = build(b, true, &mut buffer) else { panic!("the image is longer than the start") };
     assert_eq!(buffer, before);
-    buffer.resize(2 * start, u64::MAX);
+    // in as many words as the limit none is refused for their length
+    assert_eq!((limit(now + 1, 0, true), limit(now + 1, 16_777_217, true)), (Err(Refusal::NoValues), Err(Refusal::TooMany)));
+    buffer.resize(limit(now + 1, 5_000, true).unwrap(), u64::MAX);
     let mut plain = buffer.clone();
     let plain_len = build(b.clone(), false, &mut plain).unwrap();
     assert_eq!(one(ef_rank, &plain[..plain_len], now), Err(Refusal::NoRankIndex));

@@ -45,8 +45,8 @@ impl Bits {
             }
         }
         let image = rust::image_words(&rust::from_bits(&words, len), ones);
-        let mut ours = vec![u64::MAX; image.len()];
-        assert_eq!(port::from_bits(make, &words, len, &mut ours), image.len());
+        let mut ours = port::lent(len as u64, ones, true, u64::MAX);
+        ours.truncate(port::from_bits(make, &words, len, &mut ours));
         assert_eq!(ours, image, "from bits, {n}");
         Self {
             words,
@@ -63,7 +63,7 @@ impl Bits {
     }
 
     pub fn row<T>(&self, table: &mut Table, what: &str, rust: impl Fn(&[u64], usize) -> T) {
-        let mut buffer = vec![0; self.image.len()];
+        let mut buffer = port::lent(self.len as u64, self.ones, true, 0);
         table.row(
             what,
             self.ones,
@@ -115,7 +115,8 @@ impl Sums {
     pub fn rows(&self, table: &mut Table) {
         let n = self.items.len();
         let [build, access, read] = SUMS.map(|row| name(row, n));
-        let mut buffer = vec![0; self.image.len()];
+        let sum: u64 = self.items.iter().sum();
+        let mut buffer = port::lent(sum + 1, n, false, 0);
         table.row(
             &build,
             n,

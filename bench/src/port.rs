@@ -102,6 +102,7 @@ mod c {
             buffer: *mut u64,
             m: usize,
         ) -> Answer;
+        pub fn ef_limit(universe: u64, num_vals: u64, rank: bool) -> Answer;
         pub fn ef_sums_from_slice(
             items: *const u64,
             n: usize,
@@ -385,6 +386,12 @@ pub fn from_bits(make: FromBits, words: &[u64], len: usize, buffer: &mut [u64]) 
     let (at, m) = (buffer.as_mut_ptr(), buffer.len());
     let answer = unsafe { make(words.as_ptr(), words.len(), len, true, at, m) };
     answer.get().expect("a length") as usize
+}
+
+/// Words that are enough for every record of these settings, each `word`.
+pub fn lent(universe: u64, num_vals: usize, rank: bool, word: u64) -> Vec<u64> {
+    let answer = unsafe { c::ef_limit(universe, num_vals as u64, rank) };
+    vec![word; answer.get().expect("a number of words") as usize]
 }
 
 /// How many words the image has.

@@ -4,7 +4,7 @@ use std::hint::black_box;
 
 use sucds::mii_sequences::{EliasFano, EliasFanoBuilder};
 
-use crate::port::PORT;
+use crate::port::{self, PORT};
 use crate::questions::{self, Questions};
 use crate::table::{is_asked, Table};
 use crate::{rust, Random};
@@ -12,7 +12,13 @@ use crate::{rust, Random};
 /// The longest time between two readings, in seconds.
 pub const LONGEST: usize = 1800;
 
-const ROWS: [&str; 4] = ["push", "build", "build with rank", "open with rank"];
+const ROWS: [&str; 5] = [
+    "push",
+    "build",
+    "build with rank",
+    "build with rank and no word to spare",
+    "open with rank",
+];
 
 /// Both sides' record of one list.
 pub struct Record {
@@ -63,7 +69,7 @@ impl Record {
         let record = rust::record_build(rust::copy(&builder), true);
         let image = rust::image_words(&record, n);
 
-        let mut pushed = vec![u64::MAX; image.len()];
+        let mut pushed = port::lent(universe, n, true, u64::MAX);
         assert_eq!(PORT.record_push(universe, &times, &mut pushed), n as u64);
         let (high, low) = (builder.high_bits.words(), builder.low_bits.words());
         let filed = [&[0; 6], high, low].concat();
@@ -95,7 +101,7 @@ impl Record {
 
     pub fn rows(&self, table: &mut Table) {
         let n = self.times.len();
-        let [push, build, build_ranked, open] = ROWS.map(|row| name(row, n));
+        let [push, build, build_ranked, build_exactly, open] = ROWS.map(|row| name(row, n));
         let mut buffer = self.pushed.clone();
         table.row_with(
             &push,
@@ -116,22 +122,30 @@ impl Record {
                 move |b| rust::record_build(b, rank),
             )
         };
-        let port_build = |rank| {
+        let port_build = |rank, words| {
             (
-                || self.pushed.clone(),
+                move || self.pushed[..words].to_vec(),
                 move |mut words: Vec<u64>| {
                     PORT.record_build(self.universe, n, self.last, rank, &mut words);
                     words
                 },
             )
         };
-        table.row_with(&build, n, None, rust_build(false), port_build(false));
+        let (enough, exactly) = (self.pushed.len(), self.image.len());
+        table.row_with(&build, n, None, rust_build(false), port_build(false, enough));
         table.row_with(
             &build_ranked,
             n,
-            at_a_million(n, 0.25),
+            at_a_million(n, 0.05),
             rust_build(true),
-            port_build(true),
+            port_build(true, enough),
+        );
+        table.row_with(
+            &build_exactly,
+            n,
+            None,
+            rust_build(true),
+            port_build(true, exactly),
         );
         table.row_with(
             &open,

@@ -82,7 +82,7 @@ impl Strict {
         let universe = times[n - 1] + 1;
         let record = rust::record_build(rust::record_push(universe, &times), true);
         let image = rust::image_words(&record, n);
-        let mut pushed = vec![0; image.len()];
+        let mut pushed = port::lent(universe, n, true, 0);
         assert_eq!(PORT.record_push(universe, &times, &mut pushed), n as u64);
         let mut some = |below| -> Vec<u64> {
             let places = random.places(QUESTIONS, below);
@@ -122,7 +122,7 @@ impl Strict {
             at_a_million(n, 1.0),
             bulk(),
             (
-                || vec![0; self.image.len()],
+                || vec![0; self.pushed.len()],
                 |mut words: Vec<u64>| {
                     PORT.record_push(self.universe, black_box(&self.times), &mut words);
                     finish(words)

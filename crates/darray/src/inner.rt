@@ -5,7 +5,7 @@
 // Each call takes time linear in the words, and looks for no position between every 32nd but in a block that overflows, or nearly. None needs
 // more memory than one block's positions.
 //
-// `write_within` and `is_index` are inner: both demand how many positions the bits have, the first also room for the index. `sizes_by` and `total` demand numbers whose sums are in range.
+// `write_within` and `is_index` are inner: both demand how many positions the bits have, the first also room for the index.
 ghost use mathlib.Core.Path.{_≡_};
 ghost use mathlib.Core.List.{_++_};
 ghost use Prim.Native.Nat.{_+_, _-_, _/_, _^_, _≤_, _<_};
@@ -144,7 +144,7 @@ fn overflow_of(
 }
 
 // The sizes of an index over n positions, of which so many go to the overflow.
-pub fn sizes_by(n: usize, overflow: usize) -> Sizes
+fn sizes_by(n: usize, overflow: usize) -> Sizes
     requires { ⌜ n < 2 ^ 63 ⌝ }
     ensures { λ r. ⌜ r ≡ sizesBy n overflow ⌝ }
 {
@@ -168,7 +168,7 @@ fn sizes_of(words: &[u64], len: usize, over_one: bool) -> Sizes
 }
 
 // How many words the index has.
-pub fn total(s: Sizes) -> usize
+fn total(s: Sizes) -> usize
     requires { ⌜ ((s .lanes + 3 < 2 ^ 64) × (s .entries + (s .lanes + 3) / 4 + s .overflow < 2 ^ 64)) ⌝ }
     ensures { λ r. ⌜ r ≡ s .entries + (s .lanes + 3) / 4 + s .overflow ⌝ }
 {

@@ -30,7 +30,7 @@ use Rattle.elias_fano_words.proofs.Lengths as lengths
 use Rattle.elias_fano_words.proofs.Limit as limit
 use Rattle.elias_fano_words.proofs.Valid.{valid-high}
 use Rattle.broadword.proofs.Truth.{and-true}
-use Rattle.elias_fano.specs.Finishing.{Measurable, zerosOf, onesWords, zerosWords, Holding}
+use Rattle.elias_fano.specs.Finishing.{Measurable, onesWords, zerosWords, Holding}
 use Rattle.elias_fano.specs.Steps.{heldWords, heldTimes, intact, imageOf, finishedWords}
 use Rattle.elias_fano.specs.declared.builder.Builder.{Builder}
 use Rattle.elias_fano.proofs.Cases as cases

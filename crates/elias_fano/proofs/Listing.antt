@@ -9,7 +9,7 @@ use native.Mathlib.Omega.{arith}
 use borrow.Author.Tests.{le-leb}
 use lib.Dec.{leb}
 use lib.ListN.{length, getD, take, drop, replicate, length-append, length-drop, length-replicate}
-use lib.Seq.{take-all, take-suc, length-take-le, drop-append-add, drop-drop, drop-at, take-at}
+use lib.Seq.{take-all, take-suc, length-take-le, drop-append-add, drop-drop, drop-at}
 use Rattle.bit_words.specs.Vector.{wordsFor}
 use Rattle.bit_words.proofs.Runs.{Fit}
 use Rattle.darray_positions.specs.Index.{blocks, before}

@@ -2,7 +2,7 @@
 use mathlib.Core.Path.{_≡_, refl, sym, ap, ap₂, _∙_}
 use mathlib.Core.List.{List, [], _++_, append-assoc}
 use mathlib.Core.Bool.{Bool, true, false, cond}
-use Prim.Native.Nat.{ℕ, zero, suc, _+_, _-_, _*_, _≤_}
+use Prim.Native.Nat.{ℕ, _+_, _-_, _*_}
 use native.Mathlib.Nat.{le-refl}
 use native.Mathlib.Omega.{arith}
 use lib.ListN.{length, take, drop, length-append}
@@ -14,12 +14,12 @@ use Rattle.darray_positions.specs.Index.{indexWords}
 use Rattle.darray_positions.specs.Positions.{positions}
 use Rattle.elias_fano_words.specs.Sizes.{lowLen, highLen, indexLen, imageLen}
 use Rattle.elias_fano_words.specs.Image.{lowNumber, spilled, highWords, lowWords, highPositions, image}
-use Rattle.elias_fano_words.specs.Times.{rising, bitWords, holds}
+use Rattle.elias_fano_words.specs.Times.{bitWords, holds}
 use Rattle.elias_fano_words.proofs.Decode.{length-high}
 use Rattle.elias_fano_words.proofs.Holds.{holds-words}
 use Rattle.elias_fano_words.proofs.Lengths as lengths
 use Rattle.elias_fano.specs.Accept.{ranked}
-use Rattle.elias_fano.specs.Opening.{onesIn, zerosIn, endIn, highIn, bitsIn, Headed, Indexes}
+use Rattle.elias_fano.specs.Opening.{onesIn, zerosIn, highIn, bitsIn, Headed, Indexes}
 use Rattle.elias_fano.proofs.Images.{Fits, image-body, image-ranked}
 
 -- ---- the parts

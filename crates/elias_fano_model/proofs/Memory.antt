@@ -1,17 +1,17 @@
 -- Memory, whole: the bounds of every image, and over every list of calls that no answer is 3 in as many words as the limit. Assumes nothing.
-use mathlib.Core.Path.{_≡_, refl, sym, ap, _∙_, subst, subst⁻¹}
+use mathlib.Core.Path.{_≡_, refl, sym, ap, _∙_, subst⁻¹}
 use mathlib.Core.List.{List, [], _∷_}
-use mathlib.Core.Bool.{Bool, true, false, not, _&&_, _||_, cond}
-use Prim.Native.Nat.{ℕ, _+_, _^_, _≤_, _<_}
+use mathlib.Core.Bool.{Bool, true, false, not, _||_, cond}
+use Prim.Native.Nat.{ℕ, _^_, _≤_, _<_}
 use native.Mathlib.Decide.{decLe, ℕ-discrete}
 use native.Mathlib.Nat.{lt-of-not-le}
 use native.Mathlib.Omega.{arith}
 use borrow.Author.Tests.{le-ltb}
 use lib.Dec.{eqb, leb, ltb}
 use lib.ListN.{length, getD, take}
-use Rattle.errors.specs.Answer.{Answer, value, done, refused}
+use Rattle.errors.specs.Answer.{value, done, refused}
 use Rattle.broadword.proofs.Truth.{and-true, true-false}
-use Rattle.elias_fano_words.specs.Sizes.{startLen, limit}
+use Rattle.elias_fano_words.specs.Sizes.{limit}
 use Rattle.elias_fano_words.specs.Image.{spilled, highPositions, image}
 use Rattle.elias_fano_words.specs.Times.{lastOf}
 use Rattle.elias_fano_words.proofs.Bounds.{high-le}

@@ -1,6 +1,5 @@
 -- `elias_fano::finish::measured_len` meets its contract.
 -- Assumes nothing.
-use borrow.Author.Needs.{needs}
 use mathlib.Core.Bool.{true, false}
 use native.Mathlib.Omega.{arith}
 use Rattle.elias_fano.proofs.Finished as finished

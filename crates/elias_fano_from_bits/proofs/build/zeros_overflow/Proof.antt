@@ -1,6 +1,5 @@
 -- `elias_fano_from_bits::build::zeros_overflow` meets its contract.
 -- Assumes nothing.
-use borrow.Author.Needs.{needs}
 use Rattle.elias_fano.proofs.Measuring as measuring
 use Rattle.elias_fano_from_bits.proofs.Filing as filing
 use Rattle.elias_fano_from_bits.proofs.build.zeros_overflow.Statement.{statement}
