@@ -261,7 +261,7 @@ fn write_blocks_within(
     over
 }
 
-// The same for n positions, with the tables made here.
+// The same for n positions, with the tables made here. (Of the sizes the overflow, 0 here, is not looked at.)
 pub fn write_within(
     buf: &mut [u64],
     first: usize,

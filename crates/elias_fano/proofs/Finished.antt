@@ -27,7 +27,7 @@ use Rattle.elias_fano_words.specs.declared.sizes.Sizes.{Sizes}
 use Rattle.elias_fano_words.proofs.Decode.{length-high}
 use Rattle.elias_fano_words.proofs.Holds.{fit-held, length-held}
 use Rattle.elias_fano_words.proofs.Lengths as lengths
-use Rattle.elias_fano_words.proofs.Limit as limit
+use Rattle.elias_fano_words.proofs.Limit as limit-law
 use Rattle.elias_fano_words.proofs.Valid.{valid-high}
 use Rattle.broadword.proofs.Truth.{and-true}
 use Rattle.elias_fano.specs.Finishing.{Measurable, onesWords, zerosWords, Holding}
@@ -235,7 +235,7 @@ module _ (b : Builder) (w : List ℕ) (f : Holding b w) where
 
     pub within-limit : length (imageOf b c w) ≤ limit u n c
     unfolding imageOf heldTimes
-    within-limit = limit.image-most u n T rises few-T c
+    within-limit = limit-law.image-most u n T rises few-T c
 
     length-parts : length (imageOf b c w) ≡ at + length ones + length zeros
     length-parts =
@@ -419,7 +419,7 @@ module _ (b : Builder) (w : List ℕ) (f : Holding b w) where
     measure-ready = subst⁻¹ (λ (k : ℕ). Measurable (take (s .«low_at» - 6) (drop 6 w)) k) high-len-is (subst⁻¹ (λ (x : List ℕ). Measurable x H) part-is (measurable hu))
 
     pub limit-ready : (s .«start_len» < 2 ^ 32) × (s .«high_len» < 2 ^ 32) × (n < 2 ^ 32)
-    limit-ready = limit.limit-ready u n hu (known .some) (known .most) s es
+    limit-ready = limit-law.limit-ready u n hu (known .some) (known .most) s es
 
     module _ (c : Bool) where
       abbrev P : Bool → List ℕ

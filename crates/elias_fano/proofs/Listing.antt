@@ -20,7 +20,7 @@ use Rattle.elias_fano_words.specs.Times.{rising, lastFrom, lastOf, bitWords}
 use Rattle.elias_fano_words.specs.declared.sizes.Sizes.{Sizes}
 use Rattle.elias_fano_words.proofs.Decode.{length-words}
 use Rattle.elias_fano_words.proofs.Lengths as lengths
-use Rattle.elias_fano_words.proofs.Limit as limit
+use Rattle.elias_fano_words.proofs.Limit as limit-law
 use Rattle.elias_fano_words.proofs.Rising.{rising-first, rising-cons, rising-none, rising-lt, lastOf-snoc}
 use Rattle.elias_fano.specs.Finishing.{Holding, Finishable, filedIn}
 use Rattle.elias_fano.specs.Made.{builder}
@@ -57,16 +57,16 @@ module _ (u n : ℕ) (T : List ℕ) (f : Fits u n T) (many : length T ≡ n) whe
   -- by what is measured, or by the limit
   module _ (c : Bool) (s : Sizes) (es : s ≡ sizesOf u n) where
     pub limit-ready : (s .«start_len» < 2 ^ 32) × (s .«high_len» < 2 ^ 32) × (n < 2 ^ 32)
-    limit-ready = limit.limit-ready u n (f .small) (f .some) (f .most) s es
+    limit-ready = limit-law.limit-ready u n (f .small) (f .some) (f .most) s es
 
     pub limit-room : (x k : ℕ) → x ≡ limit u n c → x ≤ k → true ≡ leb (length (image u n c T)) k
-    limit-room x k e h = sym (le-leb (length (image u n c T)) k (let a = limit.image-most u n T (f .rises) (f .few) c in omega arith))
+    limit-room x k e h = sym (le-leb (length (image u n c T)) k (let a = limit-law.image-most u n T (f .rises) (f .few) c in omega arith))
 
     over-is : (b : Bool) → spilled (highPositions u n b T) ≡ before (highPositions u n b T) (blocks (highPositions u n b T))
     over-is b = length-overflow (highPositions u n b T) (blocks (highPositions u n b T))
 
     over-small : (b : Bool) → before (highPositions u n b T) (blocks (highPositions u n b T)) < 2 ^ 32
-    over-small b = let h = limits.high-small u n n (f .small) (f .some) (f .most) (le-refl n) in omega (arith, limit.spilled-most u n b T, over-is b)
+    over-small b = let h = limits.high-small u n n (f .small) (f .some) (f .most) (le-refl n) in omega (arith, limit-law.spilled-most u n b T, over-is b)
 
     module _ (o z : ℕ) (eo : o ≡ before (highPositions u n true T) (blocks (highPositions u n true T))) (ez : z ≡ cond c (before (highPositions u n false T) (blocks (highPositions u n false T))) 0) where
       pub len-ready : (s .«low_at» < 2 ^ 32) × (n * s .«low_len» < 2 ^ 32) × (s .«high_len» < 2 ^ 32) × (n ≤ s .«high_len») × (o < 2 ^ 32) × (z < 2 ^ 32)
@@ -75,7 +75,7 @@ module _ (u n : ℕ) (T : List ℕ) (f : Fits u n T) (many : length T ≡ n) whe
           let h = limits.high-small u n n (f .small) (f .some) (f .most) (le-refl n) in
           let p = limits.product-small u n n (f .small) (f .some) (f .most) (le-refl n) in
           subst⁻¹ (λ (x : Sizes). (x .«low_at» < 2 ^ 32) × (n * x .«low_len» < 2 ^ 32) × (x .«high_len» < 2 ^ 32) × (n ≤ x .«high_len») × (o < 2 ^ 32) × (z < 2 ^ 32)) es
-          (omega arith, omega arith, omega arith, omega arith, omega (arith, over-small true), omega (arith, limit.if-le c (before (highPositions u n false T) (blocks (highPositions u n false T))), over-small false))
+          (omega arith, omega arith, omega arith, omega arith, omega (arith, over-small true), omega (arith, limit-law.if-le c (before (highPositions u n false T) (blocks (highPositions u n false T))), over-small false))
 
       pub measured-is : (k : ℕ) → ((u n : ℕ) → s ≡ sizesOf u n → k ≡ imageLen u n (length T) c o z) → k ≡ length (image u n c T)
       measured-is k e =

@@ -49,7 +49,8 @@ enum Tested {
     Refused(Refusal),
 }
 
-// How many words are enough for every record of these settings: in so many no start, push or build without or, as `rank` says, with the rank index is refused for the length of its words.
+// How many words are enough for every record of these settings (document 02 (vii)): in so many no start and no push is refused for want of words, nor a build with
+// this choice; with `rank`, nor one without it.
 pub fn limit(universe: u64, num_vals: u64, rank: bool) -> Number
     ensures { λ r. ⌜ ofNumber r ≡ limitOf universe «num_vals» rank ⌝ }
 {

@@ -4,13 +4,15 @@ ghost use mathlib.Core.Path.{_≡_};
 ghost use mathlib.Core.Bool.{cond};
 ghost use Prim.Native.Nat.{ℕ, _*_, _^_, _<_, _≤_};
 ghost use Rattle.elias_fano_words.specs.Sizes.{lowLen, sizesOf, indexLen, imageLen, limit};
-use bit_words::WORD_LEN;
 use bit_words::words_for;
 use broadword::Found;
 use broadword::msb;
 
 // The most values that a record may declare.
 pub const MAX_VALS: u64 = 16_777_216;
+
+// A position in an overflow list has as many places of its own, at least.
+const OVERFLOW_PLACES: usize = 64;
 
 // The sizes that the calls share, and the word at which the low bits begin.
 pub struct Sizes {
@@ -83,6 +85,6 @@ pub fn limit_of(s: Sizes, n: usize, rank: bool) -> usize
     requires { ⌜ ((s .«start_len» < 2 ^ 32) × (s .«high_len» < 2 ^ 32) × (n < 2 ^ 32)) ⌝ }
     ensures { λ r. ⌜ ((u : ℕ) → s ≡ sizesOf u n → r ≡ limit u n rank) ⌝ }
 {
-    let overflow = s.high_len / WORD_LEN;
+    let overflow = s.high_len / OVERFLOW_PLACES;
     s.start_len + index_len(n, overflow) + index_len_if(rank, s.high_len, overflow)
 }
