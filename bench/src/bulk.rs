@@ -46,7 +46,8 @@ impl Bits {
         }
         let image = rust::image_words(&rust::from_bits(&words, len), ones);
         let mut ours = port::lent(len as u64, ones, true, u64::MAX);
-        ours.truncate(port::from_bits(make, &words, len, &mut ours));
+        let made = port::from_bits(make, &words, len, &mut ours);
+        ours.truncate(made);
         assert_eq!(ours, image, "from bits, {n}");
         Self {
             words,

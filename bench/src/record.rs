@@ -132,7 +132,13 @@ impl Record {
             )
         };
         let (enough, exactly) = (self.pushed.len(), self.image.len());
-        table.row_with(&build, n, None, rust_build(false), port_build(false, enough));
+        table.row_with(
+            &build,
+            n,
+            None,
+            rust_build(false),
+            port_build(false, enough),
+        );
         table.row_with(
             &build_ranked,
             n,
