@@ -77,8 +77,8 @@ typedef struct {
     uint64_t value; /* the value, 0, or the refusal */
 } EfAnswer;
 
-/* How many words are enough for every record of these settings: for its start, each push, and a build without or, as `rank` says, with the rank index (with it,
- * either). ef_from_bits of so many bits with num_vals ones, and ef_sums_from_slice with a sum of universe - 1, need no more either. Constant time. */
+/* How many words are enough for every record of these settings: for its start, each push, and a build with this choice; with rank, for one without it too. They are
+ * enough for ef_from_bits of `universe` bits of which num_vals are 1, and without rank for ef_sums_from_slice of num_vals items whose sum is universe - 1. Constant time. */
 EfAnswer ef_limit(uint64_t universe, uint64_t num_vals, bool rank);
 
 /* Begins a record. Zeroes the words of the start and leaves the later ones. Constant time and one pass over those words. */
