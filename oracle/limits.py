@@ -7,7 +7,7 @@ import records
 from from_bits import bits
 from model import BLOCK, BUFFER, FAR, LINE, MOST, TOP, Settings
 from questions import runs, wrong
-from records import lay, made, times_of
+from records import lay, made, small_lists, times_of
 from sarrays import all_of
 
 MAX = TOP - 1
@@ -426,16 +426,11 @@ def far_lists():
 
 
 def exhaustive():
-    """The limits of all small settings; every list of up to 3 times below u up to 5 in a buffer of just the limit; and long lists with blocks in the overflow."""
+    """The limits of all small settings; every small list in a buffer of just the limit; and long lists with blocks in the overflow."""
     lines = [f"limit {u} {n} {rank}" for u in range(140) for n in range(70) for rank in (0, 1)]
-    for u in range(6):
-        for n in range(1, 5):
-            lists = [()]
-            for _ in range(min(n, 3)):
-                lists += [(*times, t) for times in lists for t in range(times[-1] if times else 0, u)]
-            for times in sorted(set(lists)):
-                for rank, finishes in ((0, (0,)), (1, (1,)), (1, (0, 1))):
-                    lines += [f"buffer {limit(u, n, rank)} {MAX}", *made(u, n, times), f"reading {u}", *(f"finish {choice}" for choice in finishes)]
+    for u, n, times in small_lists():
+        for rank, finishes in ((0, (0,)), (1, (1,)), (1, (0, 1))):
+            lines += [f"buffer {limit(u, n, rank)} {MAX}", *made(u, n, times), f"reading {u}", *(f"finish {choice}" for choice in finishes)]
     for u, n, times in far_lists():
         for rank, finishes in ((1, (1, 0, 1)), (0, (0,))):
             lines += [f"limit {u} {n} {rank}", f"buffer {limit(u, n, rank)} {MAX}", *made(u, n, times)]

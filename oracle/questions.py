@@ -4,7 +4,7 @@ import sys
 
 import records
 from model import LENT, TOP, Console, Settings
-from records import begin, lay, made, size, times_of
+from records import begin, lay, made, size, small_lists, times_of
 
 MAX = TOP - 1
 
@@ -458,18 +458,13 @@ def add_questions(add, count):
 
 
 def exhaustive():
-    """Each question at each small number, of every list of up to 3 times below u up to 5 and each declared count up to 4."""
+    """Each question at each small number, of every small list."""
     lines = []
-    for u in range(6):
-        for n in range(1, 5):
-            lists = [()]
-            for _ in range(min(n, 3)):
-                lists += [(*times, t) for times in lists for t in range(times[-1] if times else 0, u)]
-            for times in sorted(set(lists)):
-                lines += ["buffer 20 0", *made(u, n, times)]
-                for rank in (0, 1):
-                    lines += [f"finish {rank}", "len", "universe", "has_rank"]
-                    lines += [f"{name} {v}" for name in ("delta", "rank", "predecessor", "successor", "search") for v in range(u + 2)]
-                    lines += [f"search_range {a} {b} {v}" for a in range(3) for b in range(5) for v in range(u)]
-                    lines += [f"{name} {k} {c}" for name in ("walk", "read") for k in range(5) for c in (0, 1, 4)]
+    for u, n, times in small_lists():
+        lines += ["buffer 20 0", *made(u, n, times)]
+        for rank in (0, 1):
+            lines += [f"finish {rank}", "len", "universe", "has_rank"]
+            lines += [f"{name} {v}" for name in ("delta", "rank", "predecessor", "successor", "search") for v in range(u + 2)]
+            lines += [f"search_range {a} {b} {v}" for a in range(3) for b in range(5) for v in range(u)]
+            lines += [f"{name} {k} {c}" for name in ("walk", "read") for k in range(5) for c in (0, 1, 4)]
     return [line.encode() for line in lines]

@@ -1100,17 +1100,23 @@ def add_records(add, count):
     add_out_of_form(add)
 
 
-def exhaustive():
-    """Every list of up to 3 times below u up to 5, of each declared count up to 4, with and without the rank index."""
-    lines = []
+def small_lists():
+    """Every list of up to 3 times below u up to 5, of each declared count up to 4."""
     for u in range(6):
         for n in range(1, 5):
             lists = [()]
             for _ in range(min(n, 3)):
                 lists += [(*times, t) for times in lists for t in range(times[-1] if times else 0, u)]
             for times in sorted(set(lists)):
-                lines += ["buffer 20 0", *made(u, n, times), *(f"reading {t}" for t in range(u + 1))]
-                if len(times) == n:
-                    lines += ["finish 0", "open", "select 0", f"select {len(times)}"]
-                lines += ["buffer 20 0", *made(u, n, times), f"finish {u % 2}", *(f"select {k}" for k in range(len(times) + 1))]
+                yield u, n, times
+
+
+def exhaustive():
+    """Every small list, with and without the rank index."""
+    lines = []
+    for u, n, times in small_lists():
+        lines += ["buffer 20 0", *made(u, n, times), *(f"reading {t}" for t in range(u + 1))]
+        if len(times) == n:
+            lines += ["finish 0", "open", "select 0", f"select {len(times)}"]
+        lines += ["buffer 20 0", *made(u, n, times), f"finish {u % 2}", *(f"select {k}" for k in range(len(times) + 1))]
     return [line.encode() for line in lines]
