@@ -30,11 +30,15 @@ use Rattle.elias_fano_words.proofs.Lengths as lengths
 use Rattle.elias_fano_words.proofs.Limit as limit-law
 use Rattle.elias_fano_words.proofs.Valid.{valid-high}
 use Rattle.broadword.proofs.Truth.{and-true}
-use Rattle.elias_fano.specs.Finishing.{Measurable, onesWords, zerosWords, Holding}
+use Rattle.elias_fano.specs.Finishing.{Measurable, zerosWords, Holding}
 use Rattle.elias_fano.specs.Steps.{heldWords, heldTimes, intact, imageOf, finishedWords}
 use Rattle.elias_fano.specs.declared.builder.Builder.{Builder}
 use Rattle.elias_fano.proofs.Cases as cases
 use Rattle.elias_fano.proofs.Limits as limits
+
+-- the words of the first index
+abbrev onesWords : List ℕ → ℕ → List ℕ
+onesWords ws len = indexWords (positions true ws len)
 
 -- the first words of a number
 take-words : (j k v : ℕ) → j ≤ k → take j (numberWords k v) ≡ numberWords j v

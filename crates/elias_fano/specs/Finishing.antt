@@ -22,10 +22,7 @@ Measurable ws len = (invalid ws len ≡ false) × (len < 2 ^ 32)
 abbrev pub zerosOf : Bool → List ℕ → ℕ → List ℕ
 zerosOf c ws len = cond c (positions false ws len) []
 
--- the words of the two indexes
-abbrev pub onesWords : List ℕ → ℕ → List ℕ
-onesWords ws len = indexWords (positions true ws len)
-
+-- its words
 abbrev pub zerosWords : Bool → List ℕ → ℕ → List ℕ
 zerosWords c ws len = indexWords (zerosOf c ws len)
 
