@@ -75,13 +75,13 @@ module _ (u n : ℕ) (lent : List ℕ) (begun : Room u n lent) where
 
   -- ---- the words
 
-  length-bits : (T : List ℕ) → length (bitWords u n k T) ≡ wordsFor (highLen u n) + k
+  pub length-bits : (T : List ℕ) → length (bitWords u n k T) ≡ wordsFor (highLen u n) + k
   unfolding bitWords highWords
   length-bits T =
       length-append (highWords u n T) (numberWords k (lowNumber (lowLen u n) T))
       ∙ ap₂ (λ (a b : ℕ). a + b) (length-numberWords (wordsFor (highLen u n)) (highFrom (lowLen u n) 0 T)) (length-numberWords k (lowNumber (lowLen u n) T))
 
-  start-is : startLen u n ≡ 6 + (wordsFor (highLen u n) + k)
+  pub start-is : startLen u n ≡ 6 + (wordsFor (highLen u n) + k)
   unfolding startLen
   start-is = omega arith
 

@@ -122,7 +122,7 @@ module _ (b : Builder) (w : List ℕ) (f : Holding b w) where
   pub rises : rising u 0 T ≡ true
   rises = sym (ap (λ (x : List ℕ). rising u 0 (timesIn u n m x)) split) ∙ held .0
 
-  is-bits : ws ≡ bitWords u n sw T
+  pub is-bits : ws ≡ bitWords u n sw T
   is-bits = sym split ∙ held .1 ∙ ap₂ (λ (k : ℕ) (x : List ℕ). bitWords u n k (timesIn u n m x)) length-low split
 
   pub length-T : length T ≡ m

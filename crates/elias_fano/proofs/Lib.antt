@@ -12,6 +12,7 @@ pub mod Listing
 pub mod Measuring
 pub mod Parts
 pub mod Placing
+pub mod Resuming
 pub mod Selecting
 pub mod Spilled
 pub mod Standing

@@ -1,4 +1,4 @@
--- Document 01's examples of the calls as rows of one table, those of the search as document 02 (i) has them, of the predecessor as (iii), those of the limit (vii), and the theorem that covers the table. Assumes nothing.
+-- Document 01's examples of the calls as rows of one table, those of the search as document 02 (i) has them, of the predecessor as (iii), those of the limit (vii), some of going on, and the theorem that covers the table. Assumes nothing.
 use mathlib.Core.Path.{_≡_, ap}
 use mathlib.Core.List.{List, [], _∷_, _++_, map}
 use mathlib.Core.Bool.{Bool, true, false}
@@ -19,7 +19,7 @@ use Rattle.elias_fano_words.specs.Times.{rising, bitWords, timeIn, timesIn, hol
 use Rattle.elias_fano.specs.Accept.{fit, times, accepted}
 use Rattle.elias_fano.specs.Ask.{Select, Delta, Rank, Predecessor, Successor, Binsearch, BinsearchRange, nth, gap, below, greatest, smallest, firstIndex, searched, ask, query}
 use Rattle.elias_fano.specs.Made.{Made, made, builder}
-use Rattle.elias_fano.specs.Steps.{tested, newTest, newOf, sound, builderTest, timeTest, filed, pushOf, heldTimes, intact, imageOf, imageTest, buildOf, limitOf}
+use Rattle.elias_fano.specs.Steps.{tested, newTest, newOf, sound, builderTest, timeTest, filed, pushOf, heldTimes, intact, imageOf, imageTest, buildOf, limitOf, zeros, unfinished, resumeOf}
 
 -- what is asked, and what document 01 says: an answer, and the words that are left
 pub record Row : Type 0 where
@@ -114,6 +114,14 @@ rows t =
     ∷ row (limitOf 20 0 true) (refused 1)
     ∷ row (limitOf 20 16777217 true) (refused 2)
     ∷ row (limitOf 157680000 50000 true) (value 16111)
+    ∷ call (resumeOf (start 20 4 .builder) (start 20 4 .words)) done (replicate 8 0 ++ replicate 8 5)
+    ∷ call (resumeOf (builder 20 4 4 13) (replicate 6 0 ++ (77 ∷ 67 ∷ replicate 8 5))) done (replicate 6 0 ++ (77 ∷ 67 ∷ replicate 8 5))
+    ∷ row (resumeOf (builder 20 4 5 13) (replicate 6 0 ++ (77 ∷ 67 ∷ [])) .answer) (refused 7)
+    ∷ row (resumeOf (builder 20 4 4 13) (replicate 6 0 ++ (77 ∷ [])) .answer) (refused 3)
+    ∷ row (resumeOf (builder 20 4 4 12) (replicate 6 0 ++ (77 ∷ 67 ∷ [])) .answer) (refused 7)
+    ∷ row (resumeOf (builder 20 4 4 13) four .answer) (refused 7)
+    -- what it cannot see: a changed bit that leaves other times, here 2 4 4 13
+    ∷ row (resumeOf (builder 20 4 4 13) (replicate 6 0 ++ (77 ∷ 66 ∷ [])) .answer) done
     ∷ []
 
 -- no time is below the universe 0
@@ -123,7 +131,7 @@ past t = simp (le-ltb t 0 (zero-le {n = t}), le-leb 0 t (zero-le {n = t}))
 
 -- by computation, but for the one row with a time that is not known
 pub rows-right : (t : ℕ) → map (λ (r : Row). r .asked) (rows t) ≡ map (λ (r : Row). r .says) (rows t)
-unfolding rows four unranked widest start filedFrom reading finish bit count word last select bitAt bitOver number numberWords overwrite table pos blocks size wide spill before entry lanes lane laneWord laneWords overflow indexWords places same lowLen highLen startLen highFrom lowNumber highWords lowWords image rising bitWords timeIn timesIn holds fit times accepted nth gap below greatest smallest firstIndex searched ask query newTest newOf sound builderTest timeTest filed pushOf heldTimes intact imageOf imageTest buildOf limit limitOf
+unfolding rows four unranked widest start filedFrom reading finish bit count word last select bitAt bitOver number numberWords overwrite table pos blocks size wide spill before entry lanes lane laneWord laneWords overflow indexWords places same lowLen highLen startLen highFrom lowNumber highWords lowWords image rising bitWords timeIn timesIn holds fit times accepted nth gap below greatest smallest firstIndex searched ask query newTest newOf sound builderTest timeTest filed pushOf heldTimes intact imageOf imageTest buildOf limit limitOf zeros unfinished resumeOf
 rows-right t =
     let w : List ℕ = replicate 7 0 ++ replicate 9 5 in
     let m : Answer → Made = λ a. tested a (builder 0 1 0 0) w (made done (builder 0 1 1 t) (filed 0 1 0 t w)) in

@@ -1,7 +1,7 @@
 -- What each call on a builder answers and leaves: the builder and every word lent. u is the universe, n the declared count, m how many
--- times were accepted. Document 01, "The image" and "Refusals with an example"; the limit is document 02 (vii). Assumes nothing.
-use mathlib.Core.List.{List, _++_}
-use mathlib.Core.Bool.{Bool, not, _&&_, cond}
+-- times were accepted. Document 01, "The image" and "Refusals with an example"; the limit is document 02 (vii); going on after a power cut is the port's own. Assumes nothing.
+use mathlib.Core.List.{List, [], _∷_, _++_}
+use mathlib.Core.Bool.{Bool, true, not, _&&_, cond}
 use Prim.Native.Nat.{ℕ, _+_, _-_, _*_, _/_, _%_, _^_}
 use lib.Dec.{eqb, leb, ltb}
 use lib.ListN.{length, take, drop, replicate}
@@ -116,3 +116,20 @@ finishedWords b c w = imageOf b c w ++ drop (length (imageOf b c w)) w
 
 unfoldable pub buildOf : Builder → Bool → List ℕ → Made
 buildOf b c w = tested (buildTest b c w) b w (made (value (length (imageOf b c w))) b (finishedWords b c w))
+
+-- ---- going on with what was stored: 7 by the builder's numbers, 3 by the start's size, 7 by the words
+
+unfoldable pub zeros : List ℕ → Bool
+zeros [] = true
+zeros (x ∷ xs) = eqb x 0 && zeros xs
+
+-- the header's words are 0, as before a finish, and the others hold nothing but the times
+unfoldable pub unfinished : Builder → List ℕ → Bool
+unfinished b w = zeros (take 6 w) && intact b w
+
+abbrev pub resumeTest : Builder → List ℕ → Answer
+resumeTest b w = builderTest b (length w) (cond (unfinished b w) done (refused 7))
+
+-- builder and words stay
+unfoldable pub resumeOf : Builder → List ℕ → Made
+resumeOf b w = made (resumeTest b w) b w

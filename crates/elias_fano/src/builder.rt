@@ -1,12 +1,13 @@
-// Writing a record into lent words: `new` zeroes them, `push` files one value, `build` makes an image of them; `limit` says how many words are enough.
+// Writing a record into lent words: `new` zeroes them, `push` files one value, `build` makes an image of them; `limit` says how many words are enough, and `resume`
+// whether a builder and words that were stored can be gone on with.
 //
-// `push` takes constant time; `new` and `build` take time linear in the words. Nothing is allocated. The builder is a plain value, and may
+// `push` takes constant time; `new`, `resume` and `build` take time linear in the words. Nothing is allocated. The builder is a plain value, and may
 // be any: one that no run could hold is refused.
 ghost use mathlib.Core.Path.{_≡_};
 ghost use lib.ListN.{length};
 ghost use Rattle.elias_fano.specs.Accept.{ofNumber};
 ghost use Rattle.elias_fano.specs.Made.{nobody, ofPushed, ofBuilt};
-ghost use Rattle.elias_fano.specs.Steps.{limitOf, newOf, sound, filed, pushOf, intact, buildOf};
+ghost use Rattle.elias_fano.specs.Steps.{limitOf, newOf, sound, filed, pushOf, intact, buildOf, zeros, resumeOf};
 ghost use Rattle.elias_fano.specs.Testing.{TestsNew, Roomy, TestsBuilder, Fileable, TestsPush, TestsBuild};
 use crate::finish::has_room;
 use crate::finish::write_image;
@@ -107,6 +108,16 @@ pub fn build(b: Builder, rank: bool, buffer: &mut [u64]) -> Built
     match test_build(b, rank, &*buffer) {
         Tested::Passed(s) => Built::Words(write_image(&mut *buffer, b, rank, s)),
         Tested::Refused(e) => Built::Refused(e),
+    }
+}
+
+// Goes on with a record whose builder and words were stored, as after a power cut: the builder again, if some run leaves it and these words of its start. Nothing is written.
+pub fn resume(b: Builder, words: &[u64]) -> Pushed
+    ensures { λ r. ⌜ ofPushed b r (now (words .entry)) ≡ resumeOf b (now (words .entry)) ⌝ }
+{
+    match test_builder(b, words.len()) {
+        Tested::Passed(s) => resume_by(b, s, words),
+        Tested::Refused(e) => Pushed::Refused(e),
     }
 }
 
@@ -222,6 +233,34 @@ fn is_intact(b: Builder, s: Sizes, words: &[u64]) -> bool
         Checked::Last(last) => last == b.last,
         Checked::Wrong => false,
     }
+}
+
+// Whether all words are 0.
+fn are_zeros(words: &[u64]) -> bool
+    ensures { λ r. ⌜ r ≡ zeros (now (words .entry)) ⌝ }
+{
+    let mut i: usize = 0;
+    while i < words.len() {
+        if words[i] != 0 {
+            return false;
+        }
+        i += 1;
+    }
+    true
+}
+
+// The builder again, by the words: those of the header are 0 before a finish.
+fn resume_by(b: Builder, s: Sizes, words: &[u64]) -> Pushed
+    requires { ⌜ Roomy b (length (now words)) s ⌝ }
+    ensures { λ r. ⌜ ofPushed b r (now (words .entry)) ≡ resumeOf b (now (words .entry)) ⌝ }
+{
+    if !are_zeros(&words[..6]) {
+        return Pushed::Refused(Refusal::Invalid);
+    }
+    if !is_intact(b, s, words) {
+        return Pushed::Refused(Refusal::Invalid);
+    }
+    Pushed::Accepted(b)
 }
 
 // The tests of the words, and of the length of the image that they become.
