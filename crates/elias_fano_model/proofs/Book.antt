@@ -5,7 +5,7 @@ use mathlib.Core.List.{List, [], _∷_, _++_}
 use mathlib.Core.Bool.{Bool, true, false, not, _&&_, cond}
 use Prim.Native.Nat.{ℕ, suc, _*_, _≤_, _<_, zero-le}
 use native.Mathlib.Omega.{arith}
-use borrow.Author.Tests.{le-ltb, ne-eqb, ltb-true, ltb-false, leb-true, leb-false, eqb-true, eqb-false}
+use borrow.Author.Tests.{le-ltb, lt-leb, ne-eqb, ltb-true, ltb-false, leb-true, leb-false, eqb-true, eqb-false}
 use lib.Dec.{eqb, leb, ltb}
 use lib.ListN.{length, take, drop, length-append}
 use lib.Seq.{take-append-seam}
@@ -38,6 +38,14 @@ module _ (u n : ℕ) (lent : List ℕ) where
   pub answer-is : (T : List ℕ) (t : ℕ) → answerTo u n lent T t ≡ cond (ltb t (lastOf T)) (refused 4) (cond (leb u t) (refused 5) (cond (eqb (length T) n) (refused 6) done))
   unfolding answerTo
   answer-is T t = ap (λ (x : Bool). cond x (refused 4) (cond (leb u t) (refused 5) (cond (eqb (length T) n) (refused 6) done))) (below-last T t)
+
+  -- a push is accepted by its three tests
+  pub taken : (T : List ℕ) (t : ℕ) → lastOf T ≤ t → t < u → length T < n → answerTo u n lent T t ≡ done
+  taken T t p q r = answer-is T t ∙ simp (le-ltb _ _ p, lt-leb _ _ q, ne-eqb (length T) n (λ (e : length T ≡ n). omega arith))
+
+  pub taken-after : (T : List ℕ) (t : ℕ) → answerTo u n lent T t ≡ done → after u n lent T t ≡ T ++ (t ∷ [])
+  unfolding after
+  taken-after T t e = rw e
 
 module _ (u n : ℕ) (lent : List ℕ) (begun : Begun u n lent) where
   abbrev k : ℕ
@@ -168,7 +176,7 @@ module _ (u n : ℕ) (lent : List ℕ) (begun : Begun u n lent) where
       ap rest (build-by T f c false e)
       ∙ ap (λ (x : Bool). cond x (openBook u n lent (refused 3) T ∷ bookFrom u n lent T xs) (closedBook u n lent c T ∷ [])) (sym e)
 
-  every-from : (T : List ℕ) (xs : List Call) → Fits u n T → runFrom (B T) (W T) xs ≡ bookFrom u n lent T xs
+  pub every-from : (T : List ℕ) (xs : List Call) → Fits u n T → runFrom (B T) (W T) xs ≡ bookFrom u n lent T xs
   unfolding runFrom bookFrom
   every-from T [] f = refl
   every-from T (push t ∷ xs) f = next-push T t xs f (λ S g. every-from S xs g)
@@ -216,6 +224,18 @@ module _ (u n : ℕ) (lent : List ℕ) (begun : Begun u n lent) where
       let n₀ : length I ≡ k = value-inj (length I) k (sym (ap (λ (x : Made). x .answer) (e .is)) ∙ v) in
       ap₂ take (sym n₀) (ap (λ (x : Made). x .words) (e .is)) ∙ take-append-seam I (drop (length I) (W T))
 
+  -- that image is accepted, and shows them
+  shown-left : (T : List ℕ) (c : Bool) (k : ℕ) (s : Made) → Ends T c s → s .answer ≡ value k → (accepted (take k (s .words)) ≡ true) × (shown (take k (s .words)) ≡ T)
+  shown-left T c k s e v =
+      let i : take k (s .words) ≡ image u n c T = image-left T c k s e v in
+      let ok : accepted (image u n c T) ≡ true = image-accepted u n c T (e .fits) in
+      (ap accepted i ∙ ok, ap shown i ∙ shown-times (image u n c T) ok ∙ image-times u n c T (e .fits))
+
+  -- of the calls after those that left T
+  pub shown-from : (T : List ℕ) (xs : List Call) (k : ℕ) → Fits u n T → (s : Made) → closes (s .answer) ≡ false → endFrom s (bookFrom u n lent T xs) .answer ≡ value k
+      → (accepted (take k (endFrom s (bookFrom u n lent T xs) .words)) ≡ true) × (shown (take k (endFrom s (bookFrom u n lent T xs) .words)) ≡ timesFrom u n lent T xs)
+  shown-from T xs k f s g e = shown-left (timesFrom u n lent T xs) (choiceFrom u n lent T xs) k (endFrom s (bookFrom u n lent T xs)) (ends-from T xs k f s g e) e
+
   ends : (xs : List Call) (k : ℕ) → endOf u n lent xs .answer ≡ value k → Ends (timesFrom u n lent [] xs) (choiceFrom u n lent [] xs) (endOf u n lent xs)
   ends xs k e =
       subst (Ends (timesFrom u n lent [] xs) (choiceFrom u n lent [] xs)) (sym (end-is xs))
@@ -228,18 +248,10 @@ module _ (u n : ℕ) (lent : List ℕ) (begun : Begun u n lent) where
     pub written-image : take k (endOf u n lent xs .words) ≡ image u n (choiceFrom u n lent [] xs) (timesFrom u n lent [] xs)
     written-image = image-left (timesFrom u n lent [] xs) (choiceFrom u n lent [] xs) k (endOf u n lent xs) (ends xs k e) e
 
-    -- that image is accepted, and shows them
-    image-shown : (accepted (take k (endOf u n lent xs .words)) ≡ true) × (shown (take k (endOf u n lent xs .words)) ≡ timesFrom u n lent [] xs)
-    image-shown =
-        let c = choiceFrom u n lent [] xs in
-        let T = timesFrom u n lent [] xs in
-        let ok : accepted (image u n c T) ≡ true = image-accepted u n c T times-fit in
-        (ap accepted written-image ∙ ok, ap shown written-image ∙ shown-times (image u n c T) ok ∙ image-times u n c T times-fit)
-
   pub by-the-book : (xs : List Call) → ByTheBook u n lent xs
   by-the-book xs = record {
     every-call = every xs;
-    finished = λ k e. image-shown xs k e;
+    finished = λ k e. shown-left (timesFrom u n lent [] xs) (choiceFrom u n lent [] xs) k (endOf u n lent xs) (ends xs k e) e;
   }
 
 pub whole : Whole

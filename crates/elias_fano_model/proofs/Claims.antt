@@ -3,9 +3,9 @@ use mathlib.Core.Path.{_≡_, refl, sym, ap, ap₂, _∙_, subst}
 use mathlib.Core.List.{List, [], _∷_, _++_, map, append-nil}
 use mathlib.Core.Bool.{Bool, true, false, cond}
 use mathlib.Core.Logic.{_↔_}
-use Prim.Native.Nat.{ℕ, _+_, _≤_, _<_}
+use Prim.Native.Nat.{ℕ, _+_, _≤_}
 use native.Mathlib.Omega.{arith}
-use borrow.Author.Tests.{le-ltb, lt-leb, ne-eqb}
+use borrow.Author.Tests.{le-ltb}
 use lib.ListN.{length, take, drop, replicate, length-append, length-replicate}
 use lib.Seq.{take-append-seam, append-snoc}
 use Rattle.errors.specs.Answer.{Answer, value, done, refused}
@@ -21,9 +21,9 @@ use Rattle.elias_fano.specs.declared.image.Parts.{Parts}
 use Rattle.elias_fano.specs.Steps.{newOf}
 use Rattle.elias_fano.proofs.Filled.{fit-zeros}
 use Rattle.elias_fano.proofs.Images.{is-fit, is-image}
-use Rattle.elias_fano_model.specs.Model.{Call, push, build, answerTo, after, openWords, tooLong, openBook, closedBook, bookFrom, book}
+use Rattle.elias_fano_model.specs.Model.{Call, push, build, openWords, tooLong, openBook, closedBook, bookFrom, book}
 use Rattle.elias_fano_model.specs.Demand3.{runFrom, run, endFrom, endOf, shown, Begun, Asked, Same, Written, Exactly, Demand3}
-use Rattle.elias_fano_model.proofs.Book.{answer-is, end-is, every, by-the-book, whole}
+use Rattle.elias_fano_model.proofs.Book.{taken, taken-after, end-is, every, by-the-book, whole}
 use Rattle.elias_fano_model.proofs.Others.{not-seven}
 use Rattle.elias_fano_model.proofs.Shown.{shown-times}
 
@@ -61,14 +61,6 @@ module _ (u n : ℕ) (lent : List ℕ) (c : Bool) where
   abbrev answers : List Made → List Answer
   answers = map (λ (s : Made). s .answer)
 
-  -- a push is accepted by its three tests
-  taken : (T : List ℕ) (t : ℕ) → lastOf T ≤ t → t < u → length T < n → answerTo u n lent T t ≡ done
-  taken T t p q r = answer-is u n lent T t ∙ simp (le-ltb _ _ p, lt-leb _ _ q, ne-eqb (length T) n (λ (e : length T ≡ n). omega arith))
-
-  taken-after : (T : List ℕ) (t : ℕ) → answerTo u n lent T t ≡ done → after u n lent T t ≡ T ++ (t ∷ [])
-  unfolding after
-  taken-after T t e = rw e
-
   -- what the model shows of such a run
   record Forth (S T : List ℕ) (s : Made) : Type 0 where
     shows : answers (bookFrom u n lent S (calls T)) ≡ map (λ (t : ℕ). done) T ++ (value (length (image u n c (S ++ T))) ∷ [])
@@ -85,8 +77,8 @@ module _ (u n : ℕ) (lent : List ℕ) (c : Bool) where
       record { shows = ap answers f; ends = ap (endFrom s) f }
   forth S (t ∷ T) s p q r =
       let f = rising-first u (lastOf S) t T p in
-      let d = taken S t (f .0) (f .1) (omega arith) in
-      let a = taken-after S t d in
+      let d = taken u n lent S t (f .0) (f .1) (omega arith) in
+      let a = taken-after u n lent S t d in
       let e : (S ++ (t ∷ [])) ++ T ≡ S ++ (t ∷ T) = append-snoc S t T in
       let g = forth (S ++ (t ∷ [])) T (openBook u n lent done (S ++ (t ∷ []))) (subst (λ (x : ℕ). rising u x T ≡ true) (sym (lastOf-snoc S t)) (f .2)) (let l = length-append S (t ∷ []) in omega arith) (subst (λ (x : List ℕ). length (image u n c x) ≤ length lent) (sym e) r) in
       record {
