@@ -36,16 +36,16 @@ extern "C" {
 #endif
 
 /* Refusals. A refused call alters no word, and says why; 0 is no refusal. They are tested in this order: ef_limit 1, 2; ef_new 1, 2, 3; ef_push 7, 3, 4,
- * 5, 6; ef_build 7 by the builder's numbers, 3 by the size of the start, 7 by the words, 3 by the image's length; ef_from_bits 13, 10, 11, 2, 3;
+ * 5, 6; ef_resume 7 by the builder's numbers, 3 by the size of the start, 7 by the words; ef_build 7 by the builder's numbers, 3 by the size of the start, 7 by the words, 3 by the image's length; ef_from_bits 13, 10, 11, 2, 3;
  * ef_sarray_from_bits 13, 2, 3; ef_sums_from_slice 2, 12, 3; ef_count_in_windows 7, 17. */
 enum {
     EF_NO_VALUES = 1,       /* ef_limit, ef_new: num_vals is 0 */
     EF_TOO_MANY = 2,        /* ef_limit, ef_new: num_vals is over 16,777,216; ef_from_bits, ef_sarray_from_bits, ef_sums_from_slice: more ones or items */
-    EF_SHORT_BUFFER = 3,    /* ef_new, ef_push, ef_build: below the size of the start; all that make an image: below its length */
+    EF_SHORT_BUFFER = 3,    /* ef_new, ef_push, ef_resume, ef_build: below the size of the start; all that make an image: below its length */
     EF_DECREASING = 4,      /* ef_push: the value is below the last one */
     EF_OUT_OF_UNIVERSE = 5, /* ef_push: the value is not below the universe */
     EF_FULL = 6,            /* ef_push: num_vals values were pushed */
-    EF_INVALID = 7,         /* no run leaves such a builder (ef_push, ef_build), such words (ef_build) or such an image (all that take one) */
+    EF_INVALID = 7,         /* no run leaves such a builder (ef_push, ef_resume, ef_build), such words (ef_resume, ef_build) or such an image (all that take one) */
     EF_NO_RANK_INDEX = 8,   /* ef_rank, ef_predecessor, ef_successor: the image was built without rank; of a sparse vector: `rank` is false */
     EF_RANGE = 9,           /* ef_binsearch_range: a range that is not empty ends past the values */
     EF_NO_BITS = 10,        /* ef_from_bits: there are 0 bits */
@@ -63,7 +63,7 @@ typedef struct {
     uint64_t last;       /* the last of them, 0 while there is none */
 } EfBuilder;
 
-/* 40 bytes: 0 or the refusal, and the builder to go on with: a refused ef_push hands its own back, a refused ef_new all zeros. */
+/* 40 bytes: 0 or the refusal, and the builder to go on with: a refused ef_push or ef_resume hands its own back, a refused ef_new all zeros. */
 typedef struct {
     uint64_t refusal;
     EfBuilder builder;
@@ -86,6 +86,12 @@ EfPushed ef_new(uint64_t universe, uint64_t num_vals, uint64_t *buffer, size_t l
 
 /* Files one value more, which must not be below the last. Constant time. The buffer is the one that ef_new zeroed, or a copy of it. */
 EfPushed ef_push(EfBuilder builder, uint64_t value, uint64_t *buffer, size_t len);
+
+/* Goes on with a record after a power cut: whether a builder and words that were stored are what some run, from a start on and without an accepted build, leaves. Accepted, the
+ * builder comes back, and every call after it answers as if there had been no cut. Nothing is written. Only the words of the start need be stored, those that ef_new zeroes; what
+ * stands after them is as it is lent. One pass over them.
+ * What it cannot see: a changed bit that leaves another list of as many values with the same last. Store a checksum beside them. */
+EfPushed ef_resume(EfBuilder builder, const uint64_t *words, size_t len);
 
 /* Makes an image of the words, with the index that rank needs or without it. The answer is the image's length: it stands in the first
  * words of the buffer, and the later ones stay. The image may be copied and stored: its words are the same for equal settings and values.

@@ -106,12 +106,16 @@ static void record(void) {
         must(p.refusal == 0, "a push");
     }
     EfBuilder builder = p.builder;
+    p = ef_resume(builder, buffer, 8);
+    must(p.refusal == 0 && memcmp(&p.builder, &builder, sizeof builder) == 0, "going on with what was stored");
+    must(ef_resume(builder, buffer, 7).refusal == EF_SHORT_BUFFER, "words that were cut short");
     must(ef_push(builder, 3, buffer, 8).refusal == EF_DECREASING, "a value below the last");
     must(ef_push(builder, 20, buffer, 8).refusal == EF_OUT_OF_UNIVERSE, "a value past the universe");
     must(ef_push(builder, 13, buffer, 8).refusal == EF_FULL, "a value too many");
     EfBuilder forged = builder;
     forged.last = 12;
     must(ef_build(forged, true, buffer, 8).value == EF_INVALID, "another last value");
+    must(ef_resume(forged, buffer, 8).refusal == EF_INVALID, "going on with another last value");
 
     /* The image with rank is longer than the start: refused, and tried again in a longer copy. */
     EfAnswer built = finish(&builder, true, buffer, 8);
@@ -125,6 +129,7 @@ static void record(void) {
     must(memcmp(longer, expected, sizeof expected) == 0 && longer[12] == 5, "the image's words, and the one after them");
     must(ef_push(builder, 13, longer, 16).refusal == EF_INVALID, "a push after the build");
     must(ef_build(builder, true, longer, 16).value == EF_INVALID, "a build after the build");
+    must(ef_resume(builder, longer, 16).refusal == EF_INVALID, "going on after the build");
 
     must(ef_open(longer, 12) == 0 && ef_open(longer, 13) == EF_INVALID && ef_open(longer, 0) == EF_INVALID, "opening");
     for (size_t k = 0; k < 4; k++) {

@@ -68,6 +68,7 @@ extern "C" {
     fn ef_limit(universe: u64, num_vals: u64, rank: bool) -> EfAnswer;
     fn ef_new(universe: u64, num_vals: u64, buffer: *mut u64, len: usize) -> EfPushed;
     fn ef_push(builder: EfBuilder, value: u64, buffer: *mut u64, len: usize) -> EfPushed;
+    fn ef_resume(builder: EfBuilder, words: *const u64, len: usize) -> EfPushed;
     fn ef_build(builder: EfBuilder, rank: bool, buffer: *mut u64, len: usize) -> EfAnswer;
     fn ef_open(image: *const u64, len: usize) -> u64;
     fn ef_select(image: *const u64, len: usize, k: usize) -> EfAnswer;
@@ -179,6 +180,11 @@ fn push(builder: &mut EfBuilder, value: u64, buffer: &mut [u64]) -> Result<(), R
     let p = unsafe { ef_push(builder.clone(), value, buffer.as_mut_ptr(), buffer.len()) };
     *builder = p.builder;
     if p.refusal == 0 { Ok(()) } else { Err(refusal(p.refusal)) }
+}
+
+fn resume(builder: &EfBuilder, words: &[u64]) -> Result<EfBuilder, Refusal> {
+    let p = unsafe { ef_resume(builder.clone(), words.as_ptr(), words.len()) };
+    if p.refusal == 0 { Ok(p.builder) } else { Err(refusal(p.refusal)) }
 }
 
 // Takes the builder, so that no push can follow an accepted build; a refused one hands it back.
@@ -469,7 +475,12 @@ fn main() {
     assert_eq!(new(now + 1, 5_000, &mut vec![0; start - 1]), Err(Refusal::ShortBuffer));
     let mut buffer = vec![u64::MAX; start];
     let mut b = new(now + 1, 5_000, &mut buffer).unwrap();
-    for &t in &times {
+    for (k, &t) in times.iter().enumerate() {
+        // a cut: the words of the start go on in other memory
+        if k % 1_000 == 0 {
+            buffer = buffer.clone();
+            b = resume(&b, &buffer).unwrap();
+        }
         push(&mut b, t, &mut buffer).unwrap();
     }
     assert_eq!(push(&mut b, now, &mut buffer), Err(Refusal::Full));
@@ -477,6 +488,7 @@ fn main() {
     // refused builds alter nothing and hand the builder back: one by another last time, one where the image has no room
     let before = buffer.clone();
     let forged = EfBuilder { last: now - 1, ..b.clone() };
+    assert_eq!(resume(&forged, &buffer), Err(Refusal::Invalid));
     assert_eq!(build(forged.clone(), true, &mut buffer), Err((Refusal::Invalid, forged)));
     let Err((Refusal::ShortBuffer, b)) = build(b, true, &mut buffer) else { panic!("the image is longer than the start") };
     assert_eq!(buffer, before);

@@ -58,6 +58,7 @@ static EfPushed pushed;
     answers(ef_limit, in.x, in.y, in.rank) \
     pushes(ef_new, in.x, in.y, BUFFER) \
     pushes(ef_push, in.builder, in.x, BUFFER) \
+    pushes(ef_resume, in.builder, BUFFER) \
     answers(ef_build, in.builder, in.rank, BUFFER) \
     answers(ef_from_bits, WORDS, in.num_bits, in.rank, BUFFER) \
     opens(ef_open, IMAGE) \
@@ -238,6 +239,10 @@ static size_t writing(uint64_t u, uint64_t n, const uint64_t *times, size_t m, b
     }
     uint64_t *copy = words(room);
     memcpy(copy, image, room * sizeof *copy);
+    measure(call_ef_resume);
+    in.room = 5;
+    measure(call_ef_resume);
+    in.room = room;
     started = copy, started_len = room;
     measure(call_ef_build);
     restart();

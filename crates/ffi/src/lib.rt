@@ -6,7 +6,7 @@
 ghost use mathlib.Core.Path.{_≡_};
 ghost use Rattle.elias_fano.specs.Accept.{openOf};
 ghost use Rattle.elias_fano.specs.Made.{made};
-ghost use Rattle.elias_fano.specs.Steps.{limitOf, newOf, pushOf, buildOf};
+ghost use Rattle.elias_fano.specs.Steps.{limitOf, newOf, pushOf, buildOf, resumeOf};
 ghost use Rattle.elias_fano_from_bits.specs.FromBits.{fromBitsOf};
 ghost use Rattle.ffi.specs.Answers.{ofBuilder, ofRefusal, efAnswer, efOpened, Told};
 
@@ -123,6 +123,14 @@ pub extern "C" fn ef_push(b: EfBuilder, val: u64, buffer: &mut [u64]) -> EfPushe
     ensures { λ r. ⌜ made (ofRefusal (r .refusal)) (ofBuilder (r .builder)) (now (buffer .exit)) ≡ pushOf (ofBuilder b) val (now (buffer .entry)) ⌝ }
 {
     told(b, builder::push(inner(b), val, &mut *buffer))
+}
+
+// Whether a builder and words that were stored can be gone on with.
+#[no_mangle]
+pub extern "C" fn ef_resume(b: EfBuilder, words: &[u64]) -> EfPushed
+    ensures { λ r. ⌜ made (ofRefusal (r .refusal)) (ofBuilder (r .builder)) (now (words .entry)) ≡ resumeOf (ofBuilder b) (now (words .entry)) ⌝ }
+{
+    told(b, builder::resume(inner(b), words))
 }
 
 // Makes an image of the words: its length, or a refusal.
