@@ -265,14 +265,25 @@ class Record:
             self.book.append(t)
         return "ok"
 
-    def finish(self, rank):
-        settings = self.settings()
+    def held(self, settings):
+        """The times that the words of the start hold, if they hold nothing else and end in the builder's last: 7."""
         _, _, m, last = self.made
         high, low = self.lent[HEAD : settings.low_at], self.lent[settings.low_at : settings.start]
         times = settings.times(m, high, low)
         if times is None or (times and times[-1] != last):
             raise Refused(7)
-        return self.write(settings.image(rank, times))
+        return times
+
+    def finish(self, rank):
+        settings = self.settings()
+        return self.write(settings.image(rank, self.held(settings)))
+
+    def resume(self):
+        settings = self.settings()
+        if any(self.lent[:HEAD]):
+            raise Refused(7)
+        self.held(settings)
+        return "ok"
 
     def write(self, image):
         """The image stands at the front, and the later words stay; 3 where there are too few."""
@@ -709,6 +720,7 @@ RECORD = {
     "start": (number, number),
     "reading": (number,),
     "finish": (choice,),
+    "resume": (),
     "open": (),
     "select": (number,),
     "delta": (number,),

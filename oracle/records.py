@@ -410,11 +410,11 @@ class Limits:
 
 
 def limit_of(console, name, args):
-    """The limit for the settings of a call that may draw 3; without the rank choice for a start and a reading."""
+    """The limit for the settings of a call that may draw 3; without the rank choice for a start, a reading and what goes on."""
     if name == "sums":
         return Settings(1 + sum(args[0]), len(args[0])).limit(0)
-    u, n = args if name == "start" else console.record.made[:2] if name in ("reading", "finish") else (console.length, console.num_ones())
-    return Settings(u, n).limit(0 if name in ("start", "reading") else args[0])
+    u, n = args if name == "start" else console.record.made[:2] if name in ("reading", "resume", "finish") else (console.length, console.num_ones())
+    return Settings(u, n).limit(0 if name in ("start", "reading", "resume") else args[0])
 
 
 def compare(oracle, lines):
@@ -503,7 +503,7 @@ def begin(add, u, n, more=0, value=None):
 
 
 def lay(add, u, n, times, words, value=0):
-    """The words of a run's times, poked into a buffer of one value, and the builder forged."""
+    """The words of a run's times, poked into a buffer of one value, and the builder forged; the words of the start."""
     settings = Settings(u, n)
     filed = [0] * settings.start
     filed[HEAD:] = settings.image(0, times)[HEAD:][: settings.start - HEAD]
@@ -514,6 +514,7 @@ def lay(add, u, n, times, words, value=0):
         if w != value and i >= HEAD:
             add("poke", i, w)
     add("forge", u, n, len(times), times[-1] if times else 0)
+    return filed
 
 
 def times_of(rng, u, count):

@@ -21,6 +21,7 @@ import from_bits
 import limits
 import questions
 import records
+import resumes
 import sarrays
 import sums
 import windows
@@ -1057,6 +1058,7 @@ def make(seed, count):
     sarrays.add_sarrays(add, count // 50)
     windows.add_windows(add, count // 25)
     limits.add_limits(add, count // 10)
+    resumes.add_resumes(add, count // 40)
     add.note("the last line lacks its line feed")
     add("dump")
     return add.lines
@@ -1104,7 +1106,7 @@ def main():
     check_examples(oracle)
     records.check_examples(oracle)
     questions.check_examples()
-    for table in (sums.EXAMPLES, from_bits.EXAMPLES, sarrays.EXAMPLES, windows.EXAMPLES, limits.EXAMPLES):
+    for table in (sums.EXAMPLES, from_bits.EXAMPLES, sarrays.EXAMPLES, windows.EXAMPLES, limits.EXAMPLES, resumes.EXAMPLES):
         records.hold(table)
     windows.check_counts()
     held, others = documented.check()
@@ -1115,7 +1117,7 @@ def main():
     record = records.compare(oracle, lines)
     if args.exhaustive:
         bits = together(bits, compare(oracle, exhaustive())[1:])
-        for section in (records, questions, sums, from_bits, sarrays, windows, limits):
+        for section in (records, questions, sums, from_bits, sarrays, windows, limits, resumes):
             record = together(record, records.compare(oracle, section.exhaustive()))
     written = [a for a in answers if a is not None]
     if not args.exhaustive:

@@ -14,7 +14,7 @@ use Rattle.elias_fano.specs.declared.builder.Pushed.the-variants as pushed
 use Rattle.elias_fano.specs.declared.builder.Built.{Built}
 use Rattle.elias_fano.specs.declared.builder.Built.the-variants as built
 use Rattle.elias_fano.specs.Made.{ofPushed, ofBuilt}
-use Rattle.elias_fano.specs.Steps.{newOf, pushOf, buildOf}
+use Rattle.elias_fano.specs.Steps.{newOf, pushOf, buildOf, resumeOf}
 use Rattle.console_text.specs.declared.line.Arguments.{Arguments}
 use Rattle.console_text.specs.declared.output.Reply.the-variants as reply
 use Rattle.console_text.specs.Says.{answers, bad, unknown}
@@ -84,9 +84,13 @@ module _ (r : Arguments) (s : Record) (w : List ℕ) where
   unfolding alterOf
   alter-reading k e = rw e
 
-  pub alter-finish : (k : ℕ) → (k ≡ 3 → ⊥) → (k ≡ 4 → ⊥) → (k ≡ 5 → ⊥) → alterOf k r s w ≡ ofBuild s (buildOf (s .builder) (eqb (r .a) 1) w)
+  pub alter-finish : (k : ℕ) → k ≡ 6 → alterOf k r s w ≡ ofBuild s (buildOf (s .builder) (eqb (r .a) 1) w)
   unfolding alterOf
-  alter-finish k e f g = simp (ne-eqb k 3 e, ne-eqb k 4 f, ne-eqb k 5 g)
+  alter-finish k e = rw e
+
+  pub alter-resume : (k : ℕ) → (k ≡ 3 → ⊥) → (k ≡ 4 → ⊥) → (k ≡ 5 → ⊥) → (k ≡ 6 → ⊥) → alterOf k r s w ≡ ofPush s (resumeOf (s .builder) w)
+  unfolding alterOf
+  alter-resume k e f g h = simp (ne-eqb k 3 e, ne-eqb k 4 f, ne-eqb k 5 g, ne-eqb k 6 h)
 
   module _ (k : ℕ) where
     pub within-bad : length w < s .lent → withinOf k r s w ≡ turn bad s w
@@ -109,17 +113,17 @@ module _ (r : Arguments) (s : Record) (w : List ℕ) where
     unfolding doneOf
     done-within h e = simp (le-ltb k 2 h, ne-eqb k 2 e)
 
-    pub command-unknown : 6 < k → commandOf k r s w ≡ turn unknown s w
+    pub command-unknown : 7 < k → commandOf k r s w ≡ turn unknown s w
     unfolding commandOf
-    command-unknown h = simp (lt-ltb 6 k h)
+    command-unknown h = simp (lt-ltb 7 k h)
 
-    pub command-done : k ≤ 6 → fitsOf k r ≡ true → commandOf k r s w ≡ doneOf k r s w
+    pub command-done : k ≤ 7 → fitsOf k r ≡ true → commandOf k r s w ≡ doneOf k r s w
     unfolding commandOf
-    command-done h e = simp (le-ltb 6 k h, e)
+    command-done h e = simp (le-ltb 7 k h, e)
 
-    pub command-bad : k ≤ 6 → fitsOf k r ≡ false → commandOf k r s w ≡ turn bad s w
+    pub command-bad : k ≤ 7 → fitsOf k r ≡ false → commandOf k r s w ≡ turn bad s w
     unfolding commandOf
-    command-bad h e = simp (le-ltb 6 k h, e)
+    command-bad h e = simp (le-ltb 7 k h, e)
 
 module _ (k : ℕ) (r : Arguments) where
   pub fits-forge : k ≡ 0 → fitsOf k r ≡ eqb (r .n) 4
@@ -141,6 +145,10 @@ module _ (k : ℕ) (r : Arguments) where
   unfolding fitsOf
   fits-unfinished e f = rw e (simp (ne-eqb (r .n) 1 f))
 
-  pub fits-two : (k ≡ 0 → ⊥) → ((k ≡ 1) ⊎ (k ≡ 5) → ⊥) → (k ≡ 6 → ⊥) → fitsOf k r ≡ eqb (r .n) 2
+  pub fits-none : k ≡ 7 → fitsOf k r ≡ eqb (r .n) 0
   unfolding fitsOf
-  fits-two a o d = simp (ne-eqb k 0 a, ne-eqb k 1 (λ e. o (inl e)), ne-eqb k 5 (λ e. o (inr e)), ne-eqb k 6 d)
+  fits-none e = rw e
+
+  pub fits-two : (k ≡ 0 → ⊥) → ((k ≡ 1) ⊎ (k ≡ 5) → ⊥) → (k ≡ 6 → ⊥) → (k ≡ 7 → ⊥) → fitsOf k r ≡ eqb (r .n) 2
+  unfolding fitsOf
+  fits-two a o d e = simp (ne-eqb k 0 a, ne-eqb k 1 (λ f. o (inl f)), ne-eqb k 5 (λ f. o (inr f)), ne-eqb k 6 d, ne-eqb k 7 e)

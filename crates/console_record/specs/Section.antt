@@ -12,7 +12,7 @@ use Rattle.elias_fano.specs.declared.builder.Pushed.the-variants as pushed
 use Rattle.elias_fano.specs.declared.builder.Built.{Built}
 use Rattle.elias_fano.specs.declared.builder.Built.the-variants as built
 use Rattle.elias_fano.specs.Made.{Made, builder, nobody}
-use Rattle.elias_fano.specs.Steps.{newOf, pushOf, buildOf}
+use Rattle.elias_fano.specs.Steps.{newOf, pushOf, buildOf, resumeOf}
 use Rattle.console_text.specs.declared.line.Arguments.{Arguments}
 use Rattle.console_text.specs.declared.output.Reply.{Reply}
 use Rattle.console_text.specs.declared.output.Reply.the-variants as reply
@@ -96,12 +96,13 @@ imageAfter (refused e) s = s
 abbrev pub ofBuild : Record → Made → Turn
 ofBuild s m = turn (answers (m .answer)) (imageAfter (m .answer) s) (m .words)
 
--- `poke` 3, `start U N` 4, `reading T` 5, `finish C`
+-- `poke` 3, `start U N` 4, `reading T` 5, `finish C` 6, `resume`
 unfoldable pub alterOf : ℕ → Arguments → Record → List ℕ → Turn
 alterOf k r s w =
     cond (eqb k 3) (pokeOf (r .a) (r .b) s w)
     (cond (eqb k 4) (ofPush s (newOf (r .a) (r .b) w))
-    (cond (eqb k 5) (ofPush s (pushOf (s .builder) (r .a) w)) (ofBuild s (buildOf (s .builder) (eqb (r .a) 1) w))))
+    (cond (eqb k 5) (ofPush s (pushOf (s .builder) (r .a) w))
+    (cond (eqb k 6) (ofBuild s (buildOf (s .builder) (eqb (r .a) 1) w)) (ofPush s (resumeOf (s .builder) w)))))
 
 -- the same over the whole buffer: the words that are not lent stay
 abbrev pub above : List ℕ → Turn → Turn
@@ -112,16 +113,17 @@ withinOf k r s w = cond (ltb (length w) (s .lent)) (turn bad s w) (above (drop (
 
 -- ---- all commands, by their places in the list
 
--- "forge image buffer poke start reading finish"
+-- "forge image buffer poke start reading finish resume"
 unfoldable pub commands : List ℕ
-commands = 102 ∷ 111 ∷ 114 ∷ 103 ∷ 101 ∷ 32 ∷ 105 ∷ 109 ∷ 97 ∷ 103 ∷ 101 ∷ 32 ∷ 98 ∷ 117 ∷ 102 ∷ 102 ∷ 101 ∷ 114 ∷ 32 ∷ 112 ∷ 111 ∷ 107 ∷ 101 ∷ 32 ∷ 115 ∷ 116 ∷ 97 ∷ 114 ∷ 116 ∷ 32 ∷ 114 ∷ 101 ∷ 97 ∷ 100 ∷ 105 ∷ 110 ∷ 103 ∷ 32 ∷ 102 ∷ 105 ∷ 110 ∷ 105 ∷ 115 ∷ 104 ∷ []
+commands = 102 ∷ 111 ∷ 114 ∷ 103 ∷ 101 ∷ 32 ∷ 105 ∷ 109 ∷ 97 ∷ 103 ∷ 101 ∷ 32 ∷ 98 ∷ 117 ∷ 102 ∷ 102 ∷ 101 ∷ 114 ∷ 32 ∷ 112 ∷ 111 ∷ 107 ∷ 101 ∷ 32 ∷ 115 ∷ 116 ∷ 97 ∷ 114 ∷ 116 ∷ 32 ∷ 114 ∷ 101 ∷ 97 ∷ 100 ∷ 105 ∷ 110 ∷ 103 ∷ 32 ∷ 102 ∷ 105 ∷ 110 ∷ 105 ∷ 115 ∷ 104 ∷ 32 ∷ 114 ∷ 101 ∷ 115 ∷ 117 ∷ 109 ∷ 101 ∷ []
 
 -- how many numbers each takes, and which of them is a choice
 unfoldable pub fitsOf : ℕ → Arguments → Bool
 fitsOf k r =
     cond (eqb k 0) (eqb (r .n) 4)
     (cond (eqb k 1 || eqb k 5) (eqb (r .n) 1)
-    (cond (eqb k 6) (eqb (r .n) 1 && ltb (r .a) 2) (eqb (r .n) 2)))
+    (cond (eqb k 6) (eqb (r .n) 1 && ltb (r .a) 2)
+    (cond (eqb k 7) (eqb (r .n) 0) (eqb (r .n) 2))))
 
 unfoldable pub doneOf : ℕ → Arguments → Record → List ℕ → Turn
 doneOf k r s w =
@@ -129,7 +131,7 @@ doneOf k r s w =
     (cond (eqb k 2) (lendOf (r .a) (r .b) s w) (withinOf k r s w))
 
 unfoldable pub commandOf : ℕ → Arguments → Record → List ℕ → Turn
-commandOf k r s w = cond (ltb 6 k) (turn unknown s w) (cond (fitsOf k r) (doneOf k r s w) (turn bad s w))
+commandOf k r s w = cond (ltb 7 k) (turn unknown s w) (cond (fitsOf k r) (doneOf k r s w) (turn bad s w))
 
 abbrev pub answerOf : List ℕ → Arguments → Record → List ℕ → Turn
 answerOf name r s w = commandOf (placeAmong (wordsIn commands) name) r s w

@@ -1,4 +1,4 @@
-// The commands that write into the lent words.
+// The commands that write into the lent words, and `resume`, which only reads them.
 ghost use mathlib.Core.Path.{_≡_};
 ghost use Rattle.console_record.specs.Section.{turnOf, toldPushed, toldBuilt, pokeOf, alterOf, withinOf};
 use crate::Record;
@@ -67,7 +67,7 @@ fn poke(words: &mut [u64], i: usize, x: u64, s: Record) -> Told
     }
 }
 
-// `poke` 3, `start` 4, `reading` 5, `finish` 6.
+// `poke` 3, `start` 4, `reading` 5, `finish` 6, `resume` 7.
 fn answer(k: usize, r: Arguments, words: &mut [u64], s: Record) -> Told
     ensures { λ t. ⌜ turnOf t (now (words .exit)) ≡ alterOf k r s (now (words .entry)) ⌝ }
 {
@@ -76,7 +76,8 @@ fn answer(k: usize, r: Arguments, words: &mut [u64], s: Record) -> Told
         3 => poke(words, line::size(r.a), r.b, s),
         4 => pushed(builder::new(r.a, r.b, words), s),
         5 => pushed(builder::push(b, r.a, words), s),
-        _ => built(builder::build(b, r.a == 1, words), s),
+        6 => built(builder::build(b, r.a == 1, words), s),
+        _ => pushed(builder::resume(b, &*words), s),
     }
 }
 

@@ -39,6 +39,7 @@ fn fits(k: usize, r: Arguments) -> bool
         0 => r.n == 4,
         1 | 5 => r.n == 1,
         6 => r.n == 1 && r.a < 2,
+        7 => r.n == 0,
         _ => r.n == 2,
     }
 }
@@ -60,8 +61,8 @@ fn done(k: usize, r: Arguments, buffer: &mut [u64], s: Record) -> Told
 pub fn answer(name: &[u8], r: Arguments, buffer: &mut [u64], s: Record) -> Told
     ensures { λ t. ⌜ turnOf t (now (buffer .exit)) ≡ answerOf (now (name .entry)) r s (now (buffer .entry)) ⌝ }
 {
-    let k = line::place_in(b"forge image buffer poke start reading finish", name);
-    if 6 < k {
+    let k = line::place_in(b"forge image buffer poke start reading finish resume", name);
+    if 7 < k {
         return Told {
             reply: Reply::Unknown,
             record: s,

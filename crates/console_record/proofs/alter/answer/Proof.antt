@@ -5,7 +5,7 @@ use borrow.Author.Needs.{needs}
 use Rattle.elias_fano.specs.Made.{Made, nobody}
 use Rattle.console_record.specs.declared.Told.{Told}
 use Rattle.console_record.specs.Section.{turnOf, pokeOf, ofPush, ofBuild}
-use Rattle.console_record.proofs.Telling.{pushed-leaves, built-leaves, alter-poke, alter-start, alter-reading, alter-finish}
+use Rattle.console_record.proofs.Telling.{pushed-leaves, built-leaves, alter-poke, alter-start, alter-reading, alter-finish, alter-resume}
 use Rattle.console_record.proofs.alter.answer.Statement.{statement}
 use Rattle.console_record.proofs.alter.answer.Tie as tie
 
@@ -32,6 +32,12 @@ build-requires c κs = search needs
 
 built-requires : tie.Need-built-requires
 built-requires c κs = search needs
+
+resume-requires : tie.Need-resume-requires
+resume-requires c κs = search needs
+
+pushed-requires-3 : tie.Need-pushed-requires-3
+pushed-requires-3 c κs = search needs
 
 same-length : tie.Need-same-length
 same-length c = search needs
@@ -74,11 +80,23 @@ returns-4 : tie.Need-returns-4
 returns-4 c =
     let a = c .before .before .before .before .before .before .before .before .before .args in
     let p = c .before .before .before .build in
-    let n = c .before .before .before .before .before .before .match .rest in
     ap (λ (t : Told). turnOf t (p .last .1 .1 .0)) (c .built .ensures)
     ∙ built-leaves (a .s .builder) (p .result) (a .s) (p .last .1 .1 .0)
     ∙ ap (λ (m : Made). ofBuild (a .s) m) (p .ensures)
-    ∙ sym (alter-finish (a .r) (a .s) (a .words .now) (a .k) (n .0 .0 .1) (n .0 .1) (n .1))
+    ∙ sym (alter-finish (a .r) (a .s) (a .words .now) (a .k) (c .before .before .before .before .before .before .match .keys4))
+
+same-length-5 : tie.Need-same-length-5
+same-length-5 c = search needs
+
+returns-5 : tie.Need-returns-5
+returns-5 c =
+    let a = c .before .before .before .before .before .before .args in
+    let p = c .before .resume in
+    let n = c .before .before .before .match .rest in
+    ap (λ (t : Told). turnOf t (a .words .now)) (c .pushed3 .ensures)
+    ∙ pushed-leaves (a .s .builder) (p .result) (a .s) (a .words .now)
+    ∙ ap (λ (m : Made). ofPush (a .s) m) (p .ensures)
+    ∙ sym (alter-resume (a .r) (a .s) (a .words .now) (a .k) (n .0 .0 .0 .1) (n .0 .0 .1) (n .0 .1) (n .1))
 
 pub answer-spec : {M : Type 1} → statement M
 answer-spec =
@@ -92,6 +110,8 @@ answer-spec =
     pushed-requires-2
     build-requires
     built-requires
+    resume-requires
+    pushed-requires-3
     same-length
     returns
     same-length-2
@@ -99,4 +119,6 @@ answer-spec =
     same-length-3
     returns-3
     same-length-4
-    returns-4)
+    returns-4
+    same-length-5
+    returns-5)
