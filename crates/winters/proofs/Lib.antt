@@ -1,0 +1,4 @@
+pub mod Claims
+pub mod Spans
+pub mod Summing
+pub mod Writing
