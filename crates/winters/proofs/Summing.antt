@@ -60,6 +60,7 @@ added-first (suc (suc n)) first last gap t y h k = h
 
 -- ---- all times of a list
 
+-- the summary s with the times of a list, one after the other
 unfoldable pub went : Summary → List ℕ → Summary
 went s [] = s
 went s (t ∷ T) = went (withTime s t) T
