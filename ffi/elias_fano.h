@@ -37,11 +37,11 @@ extern "C" {
 
 /* Refusals. A refused call alters no word, and says why; 0 is no refusal. They are tested in this order: ef_limit 1, 2; ef_new 1, 2, 3; ef_push 7, 3, 4,
  * 5, 6; ef_resume 7 by the builder's numbers, 3 by the size of the start, 7 by the words; ef_build 7 by the builder's numbers, 3 by the size of the start, 7 by the words, 3 by the image's length; ef_from_bits 13, 10, 11, 2, 3;
- * ef_sarray_from_bits 13, 2, 3; ef_sums_from_slice 2, 12, 3; ef_count_in_windows 7, 17. */
+ * ef_sarray_from_bits 13, 2, 3; ef_sums_from_slice 2, 12, 3; ef_count_in_windows 7, 17; ef_compare 7, 3. */
 enum {
     EF_NO_VALUES = 1,       /* ef_limit, ef_new: num_vals is 0 */
     EF_TOO_MANY = 2,        /* ef_limit, ef_new: num_vals is over 16,777,216; ef_from_bits, ef_sarray_from_bits, ef_sums_from_slice: more ones or items */
-    EF_SHORT_BUFFER = 3,    /* ef_new, ef_push, ef_resume, ef_build: below the size of the start; all that make an image: below its length */
+    EF_SHORT_BUFFER = 3,    /* ef_new, ef_push, ef_resume, ef_build: below the size of the start; all that make an image: below its length; ef_compare: below four words a span */
     EF_DECREASING = 4,      /* ef_push: the value is below the last one */
     EF_OUT_OF_UNIVERSE = 5, /* ef_push: the value is not below the universe */
     EF_FULL = 6,            /* ef_push: num_vals values were pushed */
@@ -152,6 +152,12 @@ EfAnswer ef_read_from(const uint64_t *image, size_t len, size_t k, uint64_t *out
  * overlap, and a value in two of them counts once. No windows count 0, and so does a span whose `to` is not above `from`. With seconds since a Monday 00:00 as
  * values, Monday 06:00 to 08:00 is the window 21600, 28800. Needs no rank index. After opening it costs a search, and a step for each value of the span. */
 EfAnswer ef_count_in_windows(const uint64_t *image, size_t len, const uint64_t *windows, size_t count, uint64_t from, uint64_t to);
+
+/* Spans side by side, as winters: the spans are those between two neighbouring of `seconds`, count - 1 of them, each with the values from its first second on and below its second one. Of
+ * each, four words go to `out`: how many values it has, the first, the last, and the shortest gap between two neighbours; 0 where there is none (of one value, no gap). A span
+ * that does not end after its beginning has none. The answer is the number of spans; words after those of the spans stay. Needs no rank index. After opening it costs a search for each span, and a
+ * step for each value in it. */
+EfAnswer ef_compare(const uint64_t *image, size_t len, const uint64_t *seconds, size_t count, uint64_t *out, size_t out_len);
 
 /* ---- many questions a call
  *

@@ -238,6 +238,20 @@ static void windows(const uint64_t *w, size_t len) {
     must(is_refused(ef_count_in_windows(w, len - 1, half, 3, 0, 20), EF_INVALID), "no image, before no windows");
 }
 
+/* Spans side by side, of the same values. */
+static void spans(const uint64_t *w, size_t len) {
+    static const uint64_t seconds[] = {0, 4, 20, 5};
+    static const uint64_t expected[] = {1, 3, 3, 0, 3, 4, 13, 0, 0, 0, 0, 0, 9};
+    uint64_t out[13];
+    for (size_t i = 0; i < 13; i++) {
+        out[i] = 9;
+    }
+    must(is_refused(ef_compare(w, len, seconds, 4, out, 11), EF_SHORT_BUFFER) && out[0] == 9, "no room for three spans");
+    must(is_refused(ef_compare(w, len - 1, seconds, 4, out, 11), EF_INVALID), "no image, before no room");
+    must(is_value(ef_compare(w, len, seconds, 4, out, 13), 3) && memcmp(out, expected, sizeof expected) == 0, "two spans and a reversed one, and the word after them");
+    must(is_value(ef_compare(w, len, seconds, 1, out, 0), 0), "one second, no span");
+}
+
 /* Many at once are one after the other; three arguments, and room for two answers and a half. */
 static void at_once(const char *what, const uint64_t *w, size_t len, const uint64_t args[3],
                     EfAnswer (*many)(const uint64_t *, size_t, const uint64_t *, size_t, uint64_t *, size_t), const EfAnswer one[3]) {
@@ -433,6 +447,7 @@ int main(void) {
     going_on();
     questions(image, len);
     windows(image, len);
+    spans(image, len);
     many_questions(image, len);
     without_rank();
     kept(image, len);

@@ -78,6 +78,7 @@ extern "C" {
     fn ef_successor(image: *const u64, len: usize, value: u64) -> EfAnswer;
     fn ef_binsearch(image: *const u64, len: usize, value: u64) -> EfAnswer;
     fn ef_binsearch_range(image: *const u64, len: usize, a: usize, b: usize, value: u64) -> EfAnswer;
+    fn ef_compare(image: *const u64, len: usize, seconds: *const u64, count: usize, out: *mut u64, out_len: usize) -> EfAnswer;
     fn ef_count_in_windows(image: *const u64, len: usize, windows: *const u64, count: usize, from: u64, to: u64) -> EfAnswer;
     fn ef_len(image: *const u64, len: usize) -> EfAnswer;
     fn ef_is_empty(image: *const u64, len: usize) -> EfAnswer;
@@ -305,6 +306,28 @@ fn heating(image: &[u64], times: &[u64]) {
     assert_eq!(count_in_windows(&image[1..], &[0], 0, u64::MAX), Err(Refusal::Invalid));
 }
 
+fn compare_spans(image: &[u64], seconds: &[u64], out: &mut [u64]) -> Answer {
+    answer(unsafe { ef_compare(image.as_ptr(), image.len(), seconds.as_ptr(), seconds.len(), out.as_mut_ptr(), out.len()) })
+}
+
+/// Starts day by day, beside the list itself.
+fn days(image: &[u64], times: &[u64]) {
+    const DAY: u64 = 86_400;
+    let seconds: Vec<u64> = (0..=times[times.len() - 1] / DAY + 1).map(|day| day * DAY).collect();
+    let spans = seconds.len() - 1;
+    let mut out = vec![u64::MAX; 4 * spans + 1];
+    assert_eq!(compare_spans(image, &seconds, &mut out[..4 * spans - 1]), Err(Refusal::ShortBuffer));
+    assert_eq!(compare_spans(&image[1..], &seconds, &mut []), Err(Refusal::Invalid));
+    assert!(out.iter().all(|&w| w == u64::MAX));
+    assert_eq!(compare_spans(image, &seconds, &mut out), Ok(Some(spans as u64)));
+    for (span, told) in seconds.windows(2).zip(out.chunks(4)) {
+        let inside: Vec<u64> = times.iter().copied().filter(|t| (span[0]..span[1]).contains(t)).collect();
+        let shortest = inside.windows(2).map(|w| w[1] - w[0]).min().unwrap_or(0);
+        assert_eq!(told, [inside.len() as u64, inside.first().copied().unwrap_or(0), inside.last().copied().unwrap_or(0), shortest]);
+    }
+    assert_eq!(out[4 * spans], u64::MAX);
+}
+
 type FromBits = unsafe extern "C" fn(*const u64, usize, usize, bool, *mut u64, usize) -> EfAnswer;
 
 fn image_by(make: FromBits, bits: &[u64], num_bits: usize, rank: bool, buffer: &mut [u64]) -> Answer {
@@ -511,6 +534,7 @@ fn main() {
     questions(image, &times, now + 1);
     other_questions(image, &times, now + 1);
     heating(image, &times);
+    days(image, &times);
     prefix_sums(&(0..times.len()).map(|k| gap(&times, k).unwrap()).collect::<Vec<_>>(), image);
     // starts of different seconds; then a block of zeros, and blocks of ones, too far apart for 16 bits
     let mut places = times.clone();

@@ -75,6 +75,7 @@ static EfPushed pushed;
     answers(ef_has_rank, IMAGE) \
     answers(ef_read_from, IMAGE, in.x, BUFFER) \
     answers(ef_count_in_windows, IMAGE, WORDS, in.x, in.y) \
+    answers(ef_compare, IMAGE, WORDS, BUFFER) \
     answers(ef_selects, IMAGE, WORDS, BUFFER) \
     answers(ef_deltas, IMAGE, WORDS, BUFFER) \
     answers(ef_ranks, IMAGE, WORDS, BUFFER) \
@@ -307,7 +308,11 @@ static void asking(uint64_t u, const uint64_t *times, size_t m, const uint64_t *
         MEASURE_ALL(one_question)
         in.words = windows, in.count = WINDOWS, in.y = u;
         measure(call_ef_count_in_windows);
+        measure(call_ef_compare);
     }
+    in.room = 1;
+    measure(call_ef_compare);
+    in.room = 2 * ASKED;
     in.x = 0, in.y = m + 1;
     measure(call_ef_binsearch_range);
     in.count = WINDOWS + 2;
@@ -317,6 +322,7 @@ static void asking(uint64_t u, const uint64_t *times, size_t m, const uint64_t *
     MEASURE_ALL(many_questions)
     MEASURE_ALL(one_question)
     measure(call_ef_count_in_windows);
+    measure(call_ef_compare);
     in.image = no_words, in.len = 0;
     MEASURE_ALL(of_header)
     MEASURE_ALL(many_questions)

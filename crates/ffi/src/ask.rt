@@ -2,6 +2,7 @@
 ghost use mathlib.Core.Path.{_≡_};
 ghost use Rattle.elias_fano.specs.Ask.{Select, Delta, Rank, Predecessor, Successor, Binsearch, BinsearchRange, Len, IsEmpty, Universe, HasRank, query, readFromOf};
 ghost use Rattle.weekly_windows.specs.Windows.{countOf};
+ghost use Rattle.winters.specs.Winters.{compareOf};
 ghost use Rattle.ffi.specs.Answers.{efAnswer};
 use crate::EfAnswer;
 use crate::tell::tell_number;
@@ -20,6 +21,7 @@ use elias_fano_walk::read::read_from;
 use elias_fano_walk::search::binsearch;
 use elias_fano_walk::search::binsearch_range;
 use weekly_windows::count;
+use winters::compare;
 
 // The value with the number k.
 #[no_mangle]
@@ -128,4 +130,12 @@ pub extern "C" fn ef_count_in_windows(
     ensures { λ r. ⌜ r ≡ efAnswer (countOf (now (words .entry)) (now (windows .entry)) from to) ⌝ }
 {
     tell_number(count(words, windows, from, to))
+}
+
+// Of each span between two neighbouring seconds the number of values, the first, the last and the shortest gap; how many spans there are. The later words stay.
+#[no_mangle]
+pub extern "C" fn ef_compare(words: &[u64], seconds: &[u64], out: &mut [u64]) -> EfAnswer
+    ensures { λ r. ⌜ ((r ≡ efAnswer (compareOf (now (words .entry)) (now (seconds .entry)) (now (out .entry)) .answer)) × (now (out .exit) ≡ compareOf (now (words .entry)) (now (seconds .entry)) (now (out .entry)) .words)) ⌝ }
+{
+    tell_number(compare(words, seconds, &mut *out))
 }
