@@ -1,0 +1,4 @@
+-- Laws of the definitions of `specs/`.
+pub mod Packing
+pub mod Loading
+pub mod Claims
