@@ -1,0 +1,3 @@
+-- Definitions that the contracts of `record_file` cite.
+pub mod Sum
+pub mod Stored
