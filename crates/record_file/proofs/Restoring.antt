@@ -1,20 +1,30 @@
 -- Laws of a file's words as a record. Assumes nothing.
-use mathlib.Core.Path.{_≡_, refl, sym, ap, _∙_}
-use mathlib.Core.Bool.{Bool, true, false, cond}
+use mathlib.Core.Path.{_≡_, refl, sym, ap, ap₂, _∙_, subst, subst⁻¹}
+use mathlib.Core.Bool.{false}
 use mathlib.Core.List.{List, [], _∷_, _++_}
 use Prim.Native.Nat.{ℕ, _+_, _-_, _<_, _≤_}
 use native.Mathlib.Omega.{arith}
 use borrow.Author.Count.{below-more}
+use borrow.Author.Tests.{eqb-true, eqb-false}
+use lib.Dec.{eqb}
 use lib.ListN.{length, take, drop, getD, set, length-drop}
 use lib.Seq.{ext-getD, getD-set-same, getD-set-other, getD-take, getD-drop, length-take-le}
-use Rattle.errors.specs.Answer.{done}
+use Rattle.errors.specs.Answer.{done, refused}
+use Rattle.errors.specs.Refusal.{numberOf}
+use Rattle.errors.specs.declared.Refusal.{Refusal}
+use Rattle.darray.specs.Pending.{Decides}
+use Rattle.darray.proofs.Matching.{it-is-not}
 use Rattle.elias_fano.specs.declared.builder.Builder.{Builder}
 use Rattle.elias_fano.specs.declared.builder.Pushed.{Pushed}
-use Rattle.elias_fano.specs.declared.builder.Pushed.the-variants.{Accepted}
+use Rattle.elias_fano.specs.declared.builder.Pushed.the-variants.{Accepted, Refused}
 use Rattle.elias_fano.specs.Made.{Made, ofPushed}
 use Rattle.elias_fano.specs.Steps.{resumeTest, resumeOf}
+use Rattle.elias_fano.proofs.Cases.{Sound}
+use Rattle.elias_fano.proofs.Resuming as held
 use Rattle.record_file.specs.Sum.{sumOf}
-use Rattle.record_file.specs.Stored.{headOf, stored, builderOf, Right}
+use Rattle.record_file.specs.declared.Start.{Start}
+use Rattle.record_file.specs.declared.Start.the-variants as start
+use Rattle.record_file.specs.Stored.{headOf, stored, builderOf, StartLen, StartIs, Right, Stores}
 
 -- ---- moving words to the front
 
@@ -64,26 +74,104 @@ builder-front l n h = rw (getD-take n l 0 0 (omega arith), getD-take n l 1 0 (om
 
 -- ---- the cases of the tests
 
-pub no-truth : {A : Type 0} → false ≡ true → A
-no-truth e = absurd (let z : _≡_ {A = ℕ} 0 1 = ap (λ (b : Bool). cond b 1 0) e in omega arith)
-
 pub accepted : (b x : Builder) (r : Pushed) (ws : List ℕ) → r ≡ Accepted x → ofPushed b r ws ≡ resumeOf b ws → resumeTest b ws ≡ done
 unfolding resumeOf
 accepted b x r ws e f = sym (ap (λ (p : Pushed). ofPushed b p ws .answer) (sym e) ∙ ap (λ (m : Made). m .answer) f)
 
--- a builder and a sum in front, and the words after them as they were moved
-pub held :
-    (l o : List ℕ) (n c : ℕ) (b : Builder) → 5 ≤ n → n ≤ length l
-    → b ≡ builderOf l → c ≡ getD l 4 0 → take (n - 5) o ≡ drop 5 (take n l) → Right b c (take (n - 5) o)
-    → (take n l ≡ stored b (take (length (take n l) - 5) o)) × (resumeTest b (take (length (take n l) - 5) o) ≡ done)
-unfolding stored
-held l o n c b h g eb ec em right =
-    let f = take n l in
-    let k : length f ≡ n = length-take-le n l g in (
-      five f (omega arith)
-          ∙ ap (λ (x : Builder). headOf x (getD f 4 0) ++ drop 5 f) (builder-front l n h ∙ sym eb)
-          ∙ ap (λ (x : ℕ). headOf b x ++ drop 5 f) (getD-take n l 4 0 (omega arith) ∙ sym ec ∙ right .summed)
-          ∙ ap (λ (x : List ℕ). headOf b (sumOf b (take (n - 5) o)) ++ x) (sym em)
-          ∙ ap (λ (x : ℕ). headOf b (sumOf b (take (x - 5) o)) ++ take (x - 5) o) (sym k),
-      ap (λ (x : ℕ). resumeTest b (take (x - 5) o)) k ∙ right .resumed,
-    )
+refusal-apart : (k : ℕ) → refused k ≡ done → ⊥
+refusal-apart k e = let z : _≡_ {A = ℕ} 0 1 = cc in omega arith
+
+pub not-accepted : (b : Builder) (e : Refusal) (r : Pushed) (ws : List ℕ) → r ≡ Refused e → ofPushed b r ws ≡ resumeOf b ws → resumeTest b ws ≡ done → ⊥
+unfolding resumeOf
+not-accepted b e r ws q f d = refusal-apart (numberOf e) (ap (λ (p : Pushed). ofPushed b p ws .answer) (sym q) ∙ ap (λ (m : Made). m .answer) f ∙ d)
+
+-- ---- as many words as the start has
+
+module _ (b : Builder) (len : ℕ) (r : Start) where
+  pub so-many : (k : ℕ) → StartIs b r → r ≡ start.Words k → Decides (eqb k len) (StartLen b len)
+  so-many k h e =
+      let s : StartLen b k = subst (StartIs b) e h in
+      record {
+        yes = λ q. subst (StartLen b) (eqb-true k len q) s;
+        no = λ q t. eqb-false k len q (s .2 ∙ sym (t .2));
+      }
+
+  pub no-settings : StartIs b r → r ≡ start.Refused → Decides false (StartLen b len)
+  no-settings h e = it-is-not (λ t. subst (StartIs b) e h (t .0) (t .1))
+
+-- ---- what a file stores, taken apart
+
+module _ (file : List ℕ) (b : Builder) (ws : List ℕ) (s : Stores file b ws) where
+  builder-stored : builderOf file ≡ b
+  unfolding stored headOf builderOf
+  builder-stored = ap builderOf (s .is)
+
+  sum-stored : getD file 4 0 ≡ sumOf b ws
+  unfolding stored headOf
+  sum-stored = ap (λ (f : List ℕ). getD f 4 0) (s .is)
+
+  words-stored : drop 5 file ≡ ws
+  unfolding stored headOf
+  words-stored = ap (drop 5) (s .is)
+
+  length-stored : length file ≡ 5 + length ws
+  unfolding stored headOf
+  length-stored = ap length (s .is) ∙ omega arith
+
+  -- its settings are in range: some run leaves it
+  known : Sound b
+  unfolding resumeOf
+  known = held.known b ws (s .resumed)
+
+  pub start-stored : StartLen b (length file - 5)
+  start-stored = let k = known in (k .some, k .most, ap (λ (x : ℕ). x - 5) length-stored ∙ (let z : 5 + length ws - 5 ≡ length ws = omega arith in z) ∙ s .whole)
+
+-- fewer words than stand in front
+pub too-few : (file : List ℕ) → length file < 5 → (b : Builder) (ws : List ℕ) → Stores file b ws → ⊥
+too-few file h b ws s = omega (arith, h, length-stored file b ws s)
+
+-- ---- n words of a file at the front of l, of which o has those after the head at its front
+
+module _ (l o : List ℕ) (n c : ℕ) (b : Builder) (h : 5 ≤ n) (g : n ≤ length l) (eb : b ≡ builderOf l) where
+  abbrev file : List ℕ
+  file = take n l
+
+  length-file : length file ≡ n
+  length-file = length-take-le n l g
+
+  same-builder : builderOf file ≡ b
+  same-builder = builder-front l n h ∙ sym eb
+
+  -- another number of words than the start has
+  pub other-start : (StartLen b (n - 5) → ⊥) → (d : Builder) (ws : List ℕ) → Stores file d ws → ⊥
+  other-start other d ws s =
+      other (subst (λ (x : ℕ). StartLen b (x - 5)) length-file
+      (subst (λ (x : Builder). StartLen x (length file - 5)) (sym (builder-stored file d ws s) ∙ same-builder) (start-stored file d ws s)))
+
+  module _ (ec : c ≡ getD l 4 0) (em : take (n - 5) o ≡ drop 5 file) where
+    same-sum : getD file 4 0 ≡ c
+    same-sum = getD-take n l 4 0 (omega arith) ∙ sym ec
+
+    pub held-stored : StartLen b (n - 5) → Right b c (take (n - 5) o) → Stores file b (take (length file - 5) o)
+    unfolding stored
+    held-stored start right =
+        subst⁻¹ (λ (x : ℕ). Stores file b (take (x - 5) o)) length-file
+        (record {
+          is =
+              five file (omega (arith, length-file))
+              ∙ ap (λ (x : Builder). headOf x (getD file 4 0) ++ drop 5 file) same-builder
+              ∙ ap (λ (x : ℕ). headOf b x ++ drop 5 file) (same-sum ∙ right .summed)
+              ∙ ap (λ (x : List ℕ). headOf b (sumOf b (take (n - 5) o)) ++ x) (sym em);
+          whole = ap length em ∙ length-drop 5 file ∙ ap (λ (x : ℕ). x - 5) length-file ∙ start .2;
+          resumed = right .resumed;
+        })
+
+    -- a wrong sum, or words that no run leaves
+    pub not-right : (Right b c (take (n - 5) o) → ⊥) → (d : Builder) (ws : List ℕ) → Stores file d ws → ⊥
+    not-right wrong d ws s =
+        let eb′ : d ≡ b = sym (builder-stored file d ws s) ∙ same-builder in
+        let ew : ws ≡ take (n - 5) o = sym (words-stored file d ws s) ∙ sym em in
+        wrong (record {
+          summed = sym same-sum ∙ sum-stored file d ws s ∙ ap₂ sumOf eb′ ew;
+          resumed = sym (ap₂ resumeTest eb′ ew) ∙ s .resumed;
+        })

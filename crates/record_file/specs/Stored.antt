@@ -1,12 +1,15 @@
 -- A record as the words of its file. Assumes nothing.
 use mathlib.Core.Path.{_≡_}
 use mathlib.Core.List.{List, [], _∷_, _++_}
-use Prim.Native.Nat.{ℕ, _-_}
+use Prim.Native.Nat.{ℕ, _-_, _≤_, _<_}
 use lib.ListN.{length, take, getD}
 use Rattle.errors.specs.Answer.{done}
+use Rattle.elias_fano_words.specs.Sizes.{startLen}
 use Rattle.elias_fano.specs.declared.builder.Builder.{Builder}
 use Rattle.elias_fano.specs.Steps.{resumeTest}
 use Rattle.record_file.specs.Sum.{sumOf}
+use Rattle.record_file.specs.declared.Start.{Start}
+use Rattle.record_file.specs.declared.Start.the-variants as start
 use Rattle.record_file.specs.declared.Kept.{Kept}
 use Rattle.record_file.specs.declared.Kept.the-variants.{Held, Missing, Unreadable, Refused, TooLong}
 
@@ -26,10 +29,24 @@ pub record Right (b : Builder) (check : ℕ) (ws : List ℕ) : Type 0 where
   pub summed : check ≡ sumOf b ws
   pub resumed : resumeTest b ws ≡ done
 
--- a record that is held is the one that the file stores, with the words of its start in front, and some run leaves it
+-- a builder's settings are in range, and its start has so many words
+abbrev pub StartLen : Builder → ℕ → Type 0
+StartLen b k = (0 < b .«num_vals») × (b .«num_vals» ≤ 16777216) × (k ≡ startLen (b .universe) (b .«num_vals»))
+
+abbrev pub StartIs : Builder → Start → Type 0
+StartIs b (start.Words k) = StartLen b k
+StartIs b start.Refused = 0 < b .«num_vals» → b .«num_vals» ≤ 16777216 → ⊥
+
+-- the words of a file store a record that some run leaves, with the words of its start
+pub record Stores (file : List ℕ) (b : Builder) (ws : List ℕ) : Type 0 where
+  pub is : file ≡ stored b ws
+  pub whole : length ws ≡ startLen (b .universe) (b .«num_vals»)
+  pub resumed : resumeTest b ws ≡ done
+
+-- a record is held exactly if the file stores one: that one, with the words of its start in front
 abbrev pub Restores : List ℕ → List ℕ → Kept → Type 0
-Restores file ws (Held b) = (file ≡ stored b (take (length file - 5) ws)) × (resumeTest b (take (length file - 5) ws) ≡ done)
-Restores file ws Missing = Unit {0}
-Restores file ws Unreadable = Unit {0}
-Restores file ws Refused = Unit {0}
-Restores file ws TooLong = Unit {0}
+Restores file ws (Held b) = Stores file b (take (length file - 5) ws)
+Restores file ws Refused = (b : Builder) (start : List ℕ) → Stores file b start → ⊥
+Restores file ws Missing = ⊥
+Restores file ws Unreadable = ⊥
+Restores file ws TooLong = ⊥

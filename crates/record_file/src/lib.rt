@@ -1,10 +1,10 @@
 // A record that is still written, in a file: its builder's four numbers, the sum of them and the words, and then the words of its start.
 ghost use mathlib.Core.Path.{_≡_};
-ghost use mathlib.Core.Bool.{true};
 ghost use Prim.Native.Nat.{_-_, _≤_};
 ghost use lib.ListN.{length, take, drop};
 ghost use Rattle.record_file.specs.Sum.{sumOf};
-ghost use Rattle.record_file.specs.Stored.{headOf, builderOf, Right, Restores};
+ghost use Rattle.darray.specs.Pending.{Decides};
+ghost use Rattle.record_file.specs.Stored.{headOf, builderOf, StartLen, StartIs, Right, Restores};
 use elias_fano::builder::Builder;
 use elias_fano::builder::Pushed;
 use elias_fano::builder::resume;
@@ -39,7 +39,9 @@ enum Start {
 const HEAD_LEN: usize = 5;
 
 // The words of a start with the builder's settings, where these are in range.
-fn start_of(b: Builder) -> Start {
+fn start_of(b: Builder) -> Start
+    ensures { λ r. ⌜ StartIs b r ⌝ }
+{
     if b.num_vals == 0 {
         return Start::Refused;
     }
@@ -88,7 +90,9 @@ fn builder_in(words: &[u64]) -> Builder
 }
 
 // Whether so many words are those of a start with the builder's settings.
-fn has_start(b: Builder, len: usize) -> bool {
+fn has_start(b: Builder, len: usize) -> bool
+    ensures { λ r. ⌜ Decides r (StartLen b len) ⌝ }
+{
     match start_of(b) {
         Start::Words(n) => n == len,
         Start::Refused => false,
@@ -122,7 +126,7 @@ fn clear(words: &mut [u64], from: usize, n: usize)
 
 // Whether the builder and the words of its start are those of the sum, and some run leaves them.
 fn is_right(b: Builder, check: u64, words: &[u64]) -> bool
-    ensures { λ r. ⌜ (r ≡ true → Right b check (now (words .entry))) ⌝ }
+    ensures { λ r. ⌜ Decides r (Right b check (now (words .entry))) ⌝ }
 {
     if sum(b, words) != check {
         return false;
@@ -135,7 +139,7 @@ fn is_right(b: Builder, check: u64, words: &[u64]) -> bool
 
 fn is_right_in(b: Builder, check: u64, words: &[u64], n: usize) -> bool
     requires { ⌜ n ≤ length (now words) ⌝ }
-    ensures { λ r. ⌜ (r ≡ true → Right b check (take n (now (words .entry)))) ⌝ }
+    ensures { λ r. ⌜ Decides r (Right b check (take n (now (words .entry)))) ⌝ }
 {
     is_right(b, check, &words[..n])
 }

@@ -1,5 +1,6 @@
 -- `record_file::is_right` meets its contract. Assumes nothing.
-use Rattle.record_file.proofs.Restoring.{no-truth, accepted}
+use Rattle.darray.proofs.Matching.{it-is, it-is-not}
+use Rattle.record_file.proofs.Restoring.{accepted, not-accepted}
 use mathlib.Core.Path.{sym, _∙_}
 use borrow.Author.Needs.{needs}
 use Rattle.record_file.proofs.is_right.Statement.{statement}
@@ -9,7 +10,7 @@ sum-requires : tie.Need-sum-requires
 sum-requires c κs = search needs
 
 returns : tie.Need-returns
-returns c = no-truth
+returns c = it-is-not (λ r. c .if1 .taken (c .before .sum .ensures ∙ sym (r .summed)))
 
 resume-requires : tie.Need-resume-requires
 resume-requires c κs = search needs
@@ -23,13 +24,13 @@ enum-told-2 c = search needs
 returns-2 : tie.Need-returns-2
 returns-2 c =
     let s = c .before .before .before .before .before .before .args in
-    λ t. record {
+    it-is (record {
       summed = sym (c .before .before .before .if1 .left) ∙ c .before .before .before .before .sum .ensures;
       resumed = accepted (s .b) _ (c .before .before .resume .result) (s .words .now) (c .enum-told .given .1) (c .before .before .resume .ensures);
-    }
+    })
 
 returns-3 : tie.Need-returns-3
-returns-3 c = no-truth
+returns-3 c = let s = c .before .before .before .before .before .before .args in it-is-not (λ r. not-accepted (s .b) _ (c .before .before .resume .result) (s .words .now) (c .enum-told2 .given .1) (c .before .before .resume .ensures) (r .resumed))
 
 pub is-right-spec : {M : Type 1} → statement M
 is-right-spec =
