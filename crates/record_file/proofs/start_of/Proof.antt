@@ -1,7 +1,6 @@
 -- `record_file::start_of` meets its contract. Assumes nothing.
 use borrow.Author.Needs.{needs}
 use mathlib.Core.Path.{ap}
-use native.Mathlib.Omega.{arith}
 use Rattle.elias_fano_words.specs.declared.sizes.Sizes.{Sizes}
 use Rattle.record_file.proofs.start_of.Statement.{statement}
 use Rattle.record_file.proofs.start_of.Tie as tie
