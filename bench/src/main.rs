@@ -10,6 +10,7 @@ mod rust;
 mod sarray;
 #[cfg(feature = "sdsl")]
 mod sdsl;
+mod spans;
 mod table;
 mod windows;
 
@@ -43,6 +44,16 @@ impl Random {
 
     fn places(&mut self, n: usize, below: usize) -> Vec<usize> {
         (0..n).map(|_| self.below(below)).collect()
+    }
+
+    /// So many times with gaps of up to so many seconds.
+    fn times(&mut self, n: usize, gap: usize) -> Vec<u64> {
+        let mut last = 0;
+        let next = |_| {
+            last += self.below(gap + 1) as u64;
+            last
+        };
+        (0..n).map(next).collect()
     }
 }
 
@@ -270,6 +281,7 @@ fn main() {
     let vectors = sarray::vectors(random);
     // From the seed again, so that the inputs of the other rows are as they were.
     let counted = windows::lists(&mut Random(SEED));
+    let cut = spans::lists(&mut Random(SEED));
     for _ in 0..ROUNDS {
         round(&mut table);
         records.iter().for_each(|r| r.rows(&mut table));
@@ -278,12 +290,16 @@ fn main() {
         sums.iter().for_each(|s| s.rows(&mut table));
         vectors.iter().for_each(|v| v.rows(&mut table));
         counted.iter().for_each(|c| c.rows(&mut table));
+        cut.iter().for_each(|c| c.rows(&mut table));
     }
     table.print();
     further("record", |table| {
         vectors.iter().for_each(|v| v.opened(table))
     });
-    further("walk", |table| counted.iter().for_each(|c| c.walked(table)));
+    further("walk", |table| {
+        counted.iter().for_each(|c| c.walked(table));
+        cut.iter().for_each(|c| c.walked(table));
+    });
     second_peer(random);
     earlier_port(&records, random);
 }

@@ -87,6 +87,14 @@ mod c {
             spans: *const u64,
             j: usize,
         ) -> u64;
+        pub fn ef_compare(
+            image: *const u64,
+            n: usize,
+            seconds: *const u64,
+            m: usize,
+            out: *mut u64,
+            j: usize,
+        ) -> Answer;
         pub fn ef_read_from(
             image: *const u64,
             n: usize,
@@ -366,6 +374,14 @@ pub unsafe fn select(
 pub fn count_in_windows(image: &[u64], windows: &[u64], spans: &[u64]) -> u64 {
     let (n, m, j) = (image.len(), windows.len(), spans.len());
     unsafe { c::bench_count_in_windows(image.as_ptr(), n, windows.as_ptr(), m, spans.as_ptr(), j) }
+}
+
+/// Of each span between two neighbouring seconds the number of times, the first, the last and the shortest gap, summed.
+pub fn compare_spans(image: &[u64], seconds: &[u64]) -> u64 {
+    let mut out = [0; 4 * 5];
+    let (n, m, j) = (image.len(), seconds.len(), out.len());
+    unsafe { c::ef_compare(image.as_ptr(), n, seconds.as_ptr(), m, out.as_mut_ptr(), j) };
+    out.into_iter().fold(0, u64::wrapping_add)
 }
 
 /// How many times from the first on were written.

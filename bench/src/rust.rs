@@ -173,6 +173,26 @@ pub fn count_in_windows(ef: &EliasFano, windows: &[u64], spans: &[u64]) -> u64 {
     spans.chunks_exact(2).map(count).sum()
 }
 
+/// Of each span between two neighbouring seconds the number of times, the first, the last and the shortest gap, summed: from the rank of its beginning on.
+#[inline(never)]
+pub fn compare_spans(ef: &EliasFano, seconds: &[u64]) -> u64 {
+    let summary = |span: &[u64]| {
+        let from = ef.rank(span[0]).unwrap_or(ef.len());
+        let (mut count, mut first, mut last, mut gap) = (0u64, 0, 0, 0);
+        for t in ef.iter(from).take_while(|&t| t < span[1]) {
+            match count {
+                0 => first = t,
+                1 => gap = t - last,
+                _ => gap = gap.min(t - last),
+            }
+            last = t;
+            count += 1;
+        }
+        count.wrapping_add(first).wrapping_add(last).wrapping_add(gap)
+    };
+    seconds.windows(2).map(summary).fold(0, u64::wrapping_add)
+}
+
 /// How many times from the first on were written.
 #[inline(never)]
 pub fn record_read(ef: &EliasFano, out: &mut [u64]) -> u64 {

@@ -56,12 +56,7 @@ impl Counted {
         if !ROWS.iter().any(|row| is_asked(&name(row, n, gap))) {
             return None;
         }
-        let mut last = 0;
-        let mut next = |_| {
-            last += random.below(gap + 1) as u64;
-            last
-        };
-        let times: Vec<u64> = (0..n).map(&mut next).collect();
+        let times = random.times(n, gap);
         let universe = times[n - 1] + 1;
         let ef = rust::record_build(rust::record_push(universe, &times), true);
         let image = rust::image_words(&ef, n);
