@@ -1,13 +1,15 @@
 // The burner's commands that write: `log` files the times that standard input gives into a record in a file, `finish` makes an image of it.
 // Both answer an exit status: 0 done, 1 refused, 2 a file that cannot be read or written.
 mod lines;
-mod opening;
-mod sentences;
 
+use console_text::line::wide;
+use console_text::output;
 use elias_fano::builder::Built;
 use elias_fano::builder::build;
 use elias_fano::image::Number;
-use opening::Opened;
+use record_file::opening;
+use record_file::opening::Opened;
+use record_file::sentences;
 use word_files::Saved;
 use word_files::say;
 
@@ -17,12 +19,21 @@ enum Tested {
     Stopped(i32),
 }
 
+fn too_large(out: &mut [u8; 65536], n: usize, len: usize) {
+    let a = output::text(out, 0, b"burner: the record may need ");
+    let b = output::number(out, a, wide(n));
+    let c = output::text(out, b, b" words, and there is room for ");
+    let d = output::number(out, c, wide(len));
+    let e = output::line_end(out, d);
+    say::gathered(out, e);
+}
+
 // Whether every record of these settings, and each image of it, has room in so many words.
 fn test_settings(universe: u64, num_vals: u64, len: usize, out: &mut [u8; 65536]) -> Tested {
     match elias_fano::builder::limit(universe, num_vals, true) {
         Number::Is(n) => {
             if len < n {
-                sentences::too_large(out, n, len);
+                too_large(out, n, len);
                 return Tested::Stopped(1);
             }
             Tested::Passed
@@ -56,6 +67,14 @@ pub fn log(
     }
 }
 
+// `ok N words`, on standard output.
+fn done(out: &mut [u8; 65536], n: usize) {
+    let a = output::text(out, 0, b"ok ");
+    let b = output::number(out, a, wide(n));
+    let c = output::text(out, b, b" words\n");
+    output::flush(out, c);
+}
+
 // Writes the image, which the first n words are.
 fn write_image(image: &[u8], words: &[u64], n: usize, out: &mut [u8; 65536]) -> i32 {
     if words.len() < n {
@@ -63,7 +82,7 @@ fn write_image(image: &[u8], words: &[u64], n: usize, out: &mut [u8; 65536]) -> 
     }
     match word_files::save(image, &[], &words[..n]) {
         Saved::Done => {
-            sentences::done(out, n);
+            done(out, n);
             0
         }
         Saved::Failed => {

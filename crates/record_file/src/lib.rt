@@ -14,6 +14,8 @@ use sums::sum;
 use word_files::Loaded;
 use word_files::Saved;
 
+pub mod opening;
+pub mod sentences;
 pub mod sums;
 
 pub enum Kept {

@@ -1,5 +1,4 @@
-// What is said in numbers: sentences on standard error, and the answer to `finish`.
-use console_text::line::wide;
+// What is said of a record, on standard error.
 use console_text::output;
 use elias_fano::builder::Builder;
 use errors::Refusal;
@@ -11,15 +10,6 @@ pub fn refused(out: &mut [u8; 65536], e: Refusal) {
     let b = output::refusal(out, a, e);
     let c = output::line_end(out, b);
     say::gathered(out, c);
-}
-
-pub fn too_large(out: &mut [u8; 65536], n: usize, len: usize) {
-    let a = output::text(out, 0, b"burner: the record may need ");
-    let b = output::number(out, a, wide(n));
-    let c = output::text(out, b, b" words, and there is room for ");
-    let d = output::number(out, c, wide(len));
-    let e = output::line_end(out, d);
-    say::gathered(out, e);
 }
 
 // How many times a record holds, and the last.
@@ -36,12 +26,4 @@ pub fn holds(file: &[u8], b: Builder, out: &mut [u8; 65536]) {
     let h = output::number(out, g, b.last);
     let i = output::line_end(out, h);
     say::gathered(out, i);
-}
-
-// `ok N words`, on standard output.
-pub fn done(out: &mut [u8; 65536], n: usize) {
-    let a = output::text(out, 0, b"ok ");
-    let b = output::number(out, a, wide(n));
-    let c = output::text(out, b, b" words\n");
-    output::flush(out, c);
 }

@@ -1,9 +1,10 @@
 // The record that a command goes on with: that of the file, or of what was kept of it under its name with `.1`.
+use crate::Kept;
+use crate::restore;
 use crate::sentences;
 use elias_fano::builder::Builder;
 use elias_fano::builder::Pushed;
 use elias_fano::builder::new;
-use record_file::Kept;
 use word_files::names;
 use word_files::say;
 
@@ -53,7 +54,7 @@ fn by_settings(b: Builder, w: Wanted) -> Seen {
 }
 
 fn look(file: &[u8], w: Wanted, words: &mut [u64]) -> Seen {
-    match record_file::restore(file, words) {
+    match restore(file, words) {
         Kept::Held(b) => by_settings(b, w),
         Kept::Missing => Seen::Missing,
         Kept::Unreadable => Seen::Unreadable,
