@@ -4,6 +4,7 @@ mod lines;
 
 use console_text::line::wide;
 use console_text::output;
+use elias_fano::builder::Builder;
 use elias_fano::builder::Built;
 use elias_fano::builder::build;
 use elias_fano::image::Number;
@@ -46,6 +47,17 @@ fn test_settings(universe: u64, num_vals: u64, len: usize, out: &mut [u8; 65536]
     }
 }
 
+// A record without a start is saved before the first line is read: so the file is there, and can be written.
+fn begun(file: &[u8], b: Builder, every: u64, words: &mut [u64], out: &mut [u8; 65536]) -> i32 {
+    if b.num_pushed == 0 {
+        if let Saved::Failed = record_file::keep(file, b, &*words) {
+            say::of_file(file, b" cannot be written");
+            return 2;
+        }
+    }
+    lines::all(file, lines::begin(b, every), words, out)
+}
+
 // Logs to the record in the file: as many lines as standard input has, with a save after so many accepted ones.
 pub fn log(
     file: &[u8],
@@ -62,7 +74,7 @@ pub fn log(
         }
     }
     match opening::to_log(file, universe, num_vals, words, out) {
-        Opened::Record(b) => lines::all(file, lines::begin(b, every), words, out),
+        Opened::Record(b) => begun(file, b, every, words, out),
         Opened::Stopped(status) => status,
     }
 }

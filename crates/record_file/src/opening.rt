@@ -90,18 +90,22 @@ fn stop(file: &[u8], s: Seen) -> Opened {
     }
 }
 
-// Renames the file to the name, unless that is taken.
-fn rename_aside(file: &[u8], name: &[u8]) -> Aside {
-    let fd = os::create(name);
+// Whether there is no file of this name.
+fn is_free(name: &[u8]) -> bool {
+    let fd = os::open_update(name);
     if fd < 0 {
-        if os::errno() == libc::EEXIST {
-            return Aside::There;
-        }
-        return Aside::Failed;
+        return os::errno() == libc::ENOENT;
     }
     libc::close(fd);
+    false
+}
+
+// Renames the file to the name, unless that is taken: one step, which a cut leaves done or not.
+fn rename_aside(file: &[u8], name: &[u8]) -> Aside {
+    if !is_free(name) {
+        return Aside::There;
+    }
     if os::rename(file, name) < 0 {
-        os::unlink(name);
         return Aside::Failed;
     }
     Aside::Done
