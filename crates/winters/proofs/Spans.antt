@@ -6,10 +6,11 @@ use Prim.Native.Nat.{ℕ, zero, suc, _≤_, _<_, suc-le-suc, zero-le}
 use native.Mathlib.Nat.{le-trans, lt-of-not-le}
 use native.Mathlib.Decide.{decLt}
 use native.Mathlib.Omega.{arith}
-use borrow.Author.Tests.{lt-ltb, le-ltb, le-leb, lt-leb}
+use borrow.Author.Tests.{ltb-true, lt-ltb, le-ltb, le-leb, lt-leb}
 use lib.Dec.{leb, ltb}
 use lib.ListN.{length, getD, drop}
 use lib.Seq.{drop-nil, drop-cons}
+use Rattle.broadword.proofs.Truth.{and-true}
 use Rattle.elias_fano_words.specs.Times.{rising}
 use Rattle.elias_fano_walk.specs.Searching.{FirstFrom}
 use Rattle.elias_fano_walk.proofs.Halved.{not-falling}
@@ -41,6 +42,17 @@ span-nil s e = refl
 pub span-none : (s e : ℕ) (T : List ℕ) → ((j : ℕ) → j < length T → e ≤ getD T j 0) → inSpan s e T ≡ []
 span-none s e [] h = span-nil s e
 span-none s e (t ∷ T) h = span-past s e t T (h 0 (omega arith)) ∙ span-none s e T (λ j l. h (suc j) (suc-le-suc l))
+
+-- each is below the span's end
+pub span-below : (s e : ℕ) (T : List ℕ) (j : ℕ) → j < length (inSpan s e T) → getD (inSpan s e T) j 0 < e
+unfolding inSpan
+span-below s e [] j h = absurd (omega arith)
+span-below s e (t ∷ T) j h = go (leb s t && ltb t e) refl j h (λ k. span-below s e T k)
+  where
+    go : (b : Bool) → (leb s t && ltb t e) ≡ b → (j : ℕ) → j < length (cond b (t ∷ inSpan s e T) (inSpan s e T)) → ((k : ℕ) → k < length (inSpan s e T) → getD (inSpan s e T) k 0 < e) → getD (cond b (t ∷ inSpan s e T) (inSpan s e T)) j 0 < e
+    go false q j h f = f j h
+    go true q zero h f = ltb-true t e (and-true (leb s t) (ltb t e) q .1)
+    go true q (suc j) h f = f j (omega arith)
 
 -- the span is empty or reversed
 pub span-reversed : (s e : ℕ) (T : List ℕ) → e ≤ s → inSpan s e T ≡ []

@@ -1,9 +1,9 @@
--- A summary, one time after the other, and the loop over the times of a span. T is a list of times, i an image. Assumes nothing.
+-- The summary of a time and those of a span after it, one after the other, and the loop over them. T is a list of times, i an image. Assumes nothing.
 use mathlib.Core.Path.{_≡_, refl, sym, ap, ap₂, _∙_, subst}
 use mathlib.Core.List.{List, [], _∷_}
 use mathlib.Core.Bool.{true}
-use Prim.Native.Nat.{ℕ, zero, suc, _+_, _-_, _≤_, _<_, min, zero-le}
-use native.Mathlib.Nat.{le-trans, add-zero}
+use Prim.Native.Nat.{ℕ, zero, suc, _+_, _-_, _≤_, _<_, min}
+use native.Mathlib.Nat.{le-trans}
 use native.Mathlib.Numerals.{add-one}
 use native.Mathlib.Omega.{arith}
 use lib.ListN.{length, getD, drop, length-drop, drop-of-length-le}
@@ -17,83 +17,56 @@ use Rattle.elias_fano_walk.specs.declared.walk.Walk.{Walk}
 use Rattle.elias_fano_walk.specs.Walking.{WalkOver}
 use Rattle.elias_fano_walk.proofs.Halved.{not-falling}
 use Rattle.winters.specs.declared.Summary.{Summary}
-use Rattle.winters.specs.Adding.{summary, added, withTime}
+use Rattle.winters.specs.Adding.{NoneBelow, summary, withOthers}
 use Rattle.winters.specs.Winters.{inSpan, gapsFrom, gaps, leastFrom, least, summaryOf}
 use Rattle.winters.proofs.Spans as spans
 
--- ---- one time more, by how many there were
+-- ---- a time and those after it
 
-module _ (s : Summary) (t : ℕ) where
-  pub with-first : s .count ≡ 0 → summary 1 t t 0 ≡ withTime s t
-  unfolding withTime
-  with-first e = sym (ap (λ (n : ℕ). added n (s .first) (s .last) (s .gap) t) e)
+pub nothing-told : summary 0 0 0 0 ≡ summaryOf []
+unfolding summaryOf gaps least
+nothing-told = refl
 
-  pub with-second : s .count ≡ 1 → summary 2 (s .first) t (t - s .last) ≡ withTime s t
-  unfolding withTime
-  with-second e = sym (ap (λ (n : ℕ). added n (s .first) (s .last) (s .gap) t) e)
+module _ (first last gap : ℕ) where
+  pub alone : (n : ℕ) → n ≡ 0 → summary 1 first last 0 ≡ withOthers first n last gap
+  alone n e = sym (ap (λ (m : ℕ). withOthers first m last gap) e)
 
-  with-others : (n : ℕ) → (n ≡ 0 → ⊥) → (n ≡ 1 → ⊥) → summary (n + 1) (s .first) t (min (s .gap) (t - s .last)) ≡ added n (s .first) (s .last) (s .gap) t
-  with-others zero h k = absurd (h refl)
-  with-others (suc zero) h k = absurd (k refl)
-  with-others (suc (suc n)) h k = ap (λ (m : ℕ). summary m (s .first) t (min (s .gap) (t - s .last))) (add-one (suc (suc n)))
+  pub not-alone : (n : ℕ) → (n ≡ 0 → ⊥) → summary (n + 1) first last gap ≡ withOthers first n last gap
+  not-alone zero h = absurd (h refl)
+  not-alone (suc n) h = ap (λ (m : ℕ). summary m first last gap) (add-one (suc n))
 
-  pub with-more : (s .count ≡ 0 → ⊥) → (s .count ≡ 1 → ⊥) → (g : ℕ) → g ≡ min (s .gap) (t - s .last) → summary (s .count + 1) (s .first) t g ≡ withTime s t
-  unfolding withTime
-  with-more h k g e = ap (summary (s .count + 1) (s .first) t) e ∙ with-others (s .count) h k
+-- a gap that begins with e, where the next time is below e
+told : (e first : ℕ) (S : List ℕ) → ((j : ℕ) → j < length S → getD S j 0 < e) → withOthers first (length S) (lastFrom first S) (leastFrom e (gapsFrom first S)) ≡ summaryOf (first ∷ S)
+unfolding summaryOf gaps gapsFrom least leastFrom
+told e first [] h = refl
+told e first (t ∷ S) h =
+    ap (λ (x : ℕ). summary (suc (suc (length S))) first (lastFrom t S) (leastFrom x (gapsFrom t S))) (let q = h 0 (omega arith) in let m : min e (t - first) ≡ t - first = omega arith in m)
 
--- ---- what it is then
+-- one time more
+gap-next : (gap last x : ℕ) (S : List ℕ) → leastFrom gap (gapsFrom last (x ∷ S)) ≡ leastFrom (min gap (x - last)) (gapsFrom x S)
+unfolding gapsFrom leastFrom
+gap-next gap last x S = refl
 
-added-count : (n first last gap t : ℕ) → added n first last gap t .count ≡ suc n
-added-count zero first last gap t = refl
-added-count (suc zero) first last gap t = refl
-added-count (suc (suc n)) first last gap t = refl
-
-added-last : (n first last gap t : ℕ) → added n first last gap t .last ≡ t
-added-last zero first last gap t = refl
-added-last (suc zero) first last gap t = refl
-added-last (suc (suc n)) first last gap t = refl
-
-added-first : (n first last gap t y : ℕ) → first ≤ y → t ≤ y → added n first last gap t .first ≤ y
-added-first zero first last gap t y h k = k
-added-first (suc zero) first last gap t y h k = h
-added-first (suc (suc n)) first last gap t y h k = h
-
--- ---- all times of a list
-
--- the summary s with the times of a list, one after the other
-unfoldable pub went : Summary → List ℕ → Summary
-went s [] = s
-went s (t ∷ T) = went (withTime s t) T
-
--- two times are there
-went-more : (T : List ℕ) (n first last gap : ℕ) → went (summary (suc (suc n)) first last gap) T ≡ summary (suc (suc n) + length T) first (lastFrom last T) (leastFrom gap (gapsFrom last T))
-unfolding went withTime gapsFrom leastFrom
-went-more [] n first last gap = ap (λ (m : ℕ). summary m first last gap) (sym (add-zero (suc (suc n))))
-went-more (t ∷ T) n first last gap =
-    went-more T (suc n) first t (min gap (t - last))
-    ∙ ap (λ (m : ℕ). summary m first (lastFrom t T) (leastFrom (min gap (t - last)) (gapsFrom t T))) (let e : suc (suc (suc n)) + length T ≡ suc (suc n) + suc (length T) = omega arith in e)
-
--- none was there
-abbrev pub nothing : Summary
-nothing = summary 0 0 0 0
-
-went-all : (T : List ℕ) → went nothing T ≡ summaryOf T
-unfolding went withTime summaryOf gaps gapsFrom least leastFrom
-went-all [] = refl
-went-all (t ∷ []) = refl
-went-all (t ∷ r ∷ T) =
-    went-more T 0 t r (r - t)
-    ∙ ap (λ (m : ℕ). summary m t (lastFrom r T) (leastFrom (r - t) (gapsFrom r T))) (let e : 2 + length T ≡ suc (suc (length T)) = omega arith in e)
+gap-end : (gap last : ℕ) → leastFrom gap (gapsFrom last []) ≡ gap
+unfolding gapsFrom leastFrom
+gap-end gap last = refl
 
 -- ---- the loop
 
--- s is the summary of the times of the span from the number k on and before the walk
-pub record SumsOn (i : List ℕ) (p : Parts) (e k : ℕ) (w : Walk) (s : Summary) : Type 0 where
+-- the times of the span from the number k on
+abbrev after : List ℕ → ℕ → ℕ → List ℕ
+after i e k = inSpan 0 e (drop k (times i))
+
+-- last and gap are those of the time first and the times of the span from the number k on and before the walk
+pub record SumsOn (i : List ℕ) (p : Parts) (first e k : ℕ) (w : Walk) (last gap : ℕ) : Type 0 where
   pub walking : WalkOver i p w
-  pub few : s .count ≤ w .number
-  pub first-upto : (j : ℕ) → w .number ≤ j → j < length (times i) → s .first ≤ getD (times i) j 0
-  pub last-upto : (j : ℕ) → w .number ≤ j → j < length (times i) → s .last ≤ getD (times i) j 0
-  pub same : went s (inSpan 0 e (drop (w .number) (times i))) ≡ went nothing (inSpan 0 e (drop k (times i)))
+  pub from : k ≤ w .number
+  pub few : w .number - k ≤ p .«num_pushed»
+  pub above-first : NoneBelow first (drop (w .number) (times i))
+  pub above-last : NoneBelow last (drop (w .number) (times i))
+  pub counts : w .number - k + length (after i e (w .number)) ≡ length (after i e k)
+  pub lasts : lastFrom last (after i e (w .number)) ≡ lastFrom first (after i e k)
+  pub gaps : leastFrom gap (gapsFrom last (after i e (w .number))) ≡ leastFrom e (gapsFrom first (after i e k))
 
 module _ (i : List ℕ) (ok : accepted i ≡ true) (p : Parts) (ep : p ≡ partsOf i) where
   many : p .«num_pushed» ≡ length (times i)
@@ -102,58 +75,68 @@ module _ (i : List ℕ) (ok : accepted i ≡ true) (p : Parts) (ep : p ≡ parts
   few-times : p .«num_pushed» ≤ 16777216
   few-times = let f = images.is-fit i ok in omega (arith, many, f .few, f .most)
 
-  -- a time is not below those before it
-  later : (j k : ℕ) → j ≤ k → k < length (times i) → getD (times i) j 0 ≤ getD (times i) k 0
-  later = not-falling _ (times i) (images.is-fit i ok .rises)
+  -- no time from a number on is below that number's
+  pub none-below : (k x : ℕ) → x ≡ getD (times i) k 0 → (m : ℕ) → k ≤ m → NoneBelow x (drop m (times i))
+  none-below k x ex m l j b =
+      let q = length-drop m (times i) in
+      subst (λ (y : ℕ). y ≤ getD (drop m (times i)) j 0) (sym ex) (subst (λ (y : ℕ). getD (times i) k 0 ≤ y) (sym (getD-drop m (times i) j 0)) (not-falling _ (times i) (images.is-fit i ok .rises) k (m + j) (omega arith) (omega arith)))
 
-  module _ (e : ℕ) where
-    pub sums-begin : (w : Walk) → WalkOver i p w → SumsOn i p e (w .number) w nothing
-    sums-begin w h = record { walking = h; few = zero-le; first-upto = λ j l m. zero-le; last-upto = λ j l m. zero-le; same = refl }
+  -- no time is left
+  pub none-after : (e k : ℕ) → p .«num_pushed» ≤ k → after i e k ≡ []
+  none-after e k h = ap (inSpan 0 e) (drop-of-length-le (times i) {i = k} (omega (arith, many))) ∙ spans.span-nil 0 e
 
-    module _ (k : ℕ) (w : Walk) (s : Summary) (g : SumsOn i p e k w s) where
-      -- no time is left
-      none-left : inSpan 0 e (drop (w .number) (times i)) ≡ [] → s ≡ summaryOf (inSpan 0 e (drop k (times i)))
-      unfolding went
-      none-left h = sym (ap (went s) h) ∙ g .same ∙ went-all (inSpan 0 e (drop k (times i)))
+  -- the next time is not below the span's end, and no later one is
+  pub none-within : (e k x : ℕ) → x ≡ getD (times i) k 0 → e ≤ x → after i e k ≡ []
+  none-within e k x ex h = spans.span-none 0 e (drop k (times i)) (λ j m. le-trans h (none-below k x ex k (omega arith) j m))
 
-      pub sums-end : p .«num_pushed» ≤ w .number → s ≡ summaryOf (inSpan 0 e (drop k (times i)))
-      sums-end h = none-left (ap (inSpan 0 e) (drop-of-length-le (times i) {i = w .number} (omega (arith, many))) ∙ spans.span-nil 0 e)
+  pub one-more : (e k x : ℕ) → k < p .«num_pushed» → x ≡ getD (times i) k 0 → x < e → (m : ℕ) → m ≡ suc k → after i e k ≡ x ∷ after i e m
+  one-more e k x l ex h m q =
+      spans.span-next e k (times i) (omega (arith, many)) (subst (λ (y : ℕ). y < e) ex h) ∙ ap₂ (λ (y n : ℕ). y ∷ after i e n) (sym ex) (sym q)
+
+  module _ (first e : ℕ) where
+    pub sums-begin : (w : Walk) → WalkOver i p w → NoneBelow first (drop (w .number) (times i)) → SumsOn i p first e (w .number) w first e
+    sums-begin w h n = record { walking = h; from = omega arith; few = omega arith; above-first = n; above-last = n; counts = omega arith; lasts = refl; gaps = refl }
+
+    module _ (k : ℕ) (w : Walk) (last gap : ℕ) (g : SumsOn i p first e k w last gap) where
+      pub sums-few : w .number - k ≤ 16777216
+      sums-few = le-trans (g .few) few-times
+
+      -- no time of the span is left
+      pub sums-end : after i e (w .number) ≡ [] → (r : Summary) → r ≡ withOthers first (w .number - k) last gap → r ≡ summaryOf (first ∷ after i e k)
+      sums-end h r q =
+          let n : w .number - k ≡ length (after i e k) = (let z : w .number - k ≡ w .number - k + 0 = omega arith in z) ∙ ap (λ (S : List ℕ). w .number - k + length S) (sym h) ∙ g .counts in
+          let l : last ≡ lastFrom first (after i e k) = ap (lastFrom last) (sym h) ∙ g .lasts in
+          let m : gap ≡ leastFrom e (gapsFrom first (after i e k)) = sym (gap-end gap last) ∙ ap (λ (S : List ℕ). leastFrom gap (gapsFrom last S)) (sym h) ∙ g .gaps in
+          q
+          ∙ ap (λ (y : ℕ). withOthers first y last gap) n
+          ∙ ap₂ (withOthers first (length (after i e k))) l m
+          ∙ told e first (after i e k) (spans.span-below 0 e (drop k (times i)))
 
       module _ (l : w .number < p .«num_pushed») (x : ℕ) (ex : x ≡ getD (times i) (w .number) 0) where
-        -- the next time is not below the span's end, and no later one is
-        pub sums-stop : e ≤ x → s ≡ summaryOf (inSpan 0 e (drop k (times i)))
-        sums-stop h = none-left (spans.span-none 0 e (drop (w .number) (times i)) (λ j m. subst (λ (y : ℕ). e ≤ y) (sym (getD-drop (w .number) (times i) j 0)) (le-trans (subst (λ (y : ℕ). e ≤ y) ex h) (after j m))))
-          where
-            after : (j : ℕ) → j < length (drop (w .number) (times i)) → getD (times i) (w .number) 0 ≤ getD (times i) (w .number + j) 0
-            after j m = later (w .number) (w .number + j) (omega arith) (let q = length-drop (w .number) (times i) in omega arith)
+        -- the next time is not below those before it
+        next-above : (y : ℕ) → NoneBelow y (drop (w .number) (times i)) → y ≤ x
+        next-above y h =
+            let q = length-drop (w .number) (times i) in
+            let z : w .number + 0 ≡ w .number = omega arith in
+            subst (λ (v : ℕ). y ≤ v) (getD-drop (w .number) (times i) 0 0 ∙ ap (λ (j : ℕ). getD (times i) j 0) z ∙ sym ex) (h 0 (omega (arith, many)))
 
-        -- what a summary with one time more demands
-        pub sums-next : (s .count < 16777216) × (s .first ≤ x) × (s .last ≤ x)
-        sums-next =
-            let n : w .number < length (times i) = omega (arith, many) in (
-              omega (arith, g .few, few-times),
-              subst (λ (y : ℕ). s .first ≤ y) (sym ex) (g .first-upto (w .number) (omega arith) n),
-              subst (λ (y : ℕ). s .last ≤ y) (sym ex) (g .last-upto (w .number) (omega arith) n),
-            )
+        pub next-upto : (first ≤ x) × (last ≤ x)
+        next-upto = (next-above first (g .above-first), next-above last (g .above-last))
 
-        goes-on : x < e → (n : ℕ) → n ≡ suc (w .number) → went (withTime s x) (inSpan 0 e (drop n (times i))) ≡ went nothing (inSpan 0 e (drop k (times i)))
-        unfolding went
-        goes-on h n q =
-            ap₂ (λ (y m : ℕ). went (withTime s y) (inSpan 0 e (drop m (times i)))) ex q
-            ∙ sym (ap (went s) (spans.span-next e (w .number) (times i) (omega (arith, many)) (subst (λ (y : ℕ). y < e) ex h)))
-            ∙ g .same
+        module _ (h : x < e) (w′ : Walk) (o : WalkOver i p w′) (n : w′ .number ≡ suc (w .number)) where
+          next : after i e (w .number) ≡ x ∷ after i e (w′ .number)
+          next = one-more e (w .number) x l ex h (w′ .number) n
 
-        with-next : x < e → (w′ : Walk) → WalkOver i p w′ → w′ .number ≡ suc (w .number) → SumsOn i p e k w′ (withTime s x)
-        unfolding withTime
-        with-next h w′ o n =
-            let upto : (j : ℕ) → w′ .number ≤ j → j < length (times i) → x ≤ getD (times i) j 0 = λ j a b. subst (λ (y : ℕ). y ≤ getD (times i) j 0) (sym ex) (later (w .number) j (omega arith) b) in
-            record {
-              walking = o;
-              few = let a = added-count (s .count) (s .first) (s .last) (s .gap) x in let f = g .few in omega arith;
-              first-upto = λ j a b. added-first (s .count) (s .first) (s .last) (s .gap) x (getD (times i) j 0) (g .first-upto j (omega arith) b) (upto j a b);
-              last-upto = λ j a b. subst (λ (y : ℕ). y ≤ getD (times i) j 0) (sym (added-last (s .count) (s .first) (s .last) (s .gap) x)) (upto j a b);
-              same = goes-on h (w′ .number) n;
-            }
-
-        pub sums-more : x < e → (w′ : Walk) → WalkOver i p w′ → w′ .number ≡ suc (w .number) → (s′ : Summary) → s′ ≡ withTime s x → SumsOn i p e k w′ s′
-        sums-more h w′ o n s′ q = subst (SumsOn i p e k w′) (sym q) (with-next h w′ o n)
+          pub sums-more : (gap′ : ℕ) → gap′ ≡ min gap (x - last) → SumsOn i p first e k w′ x gap′
+          sums-more gap′ q =
+              let f = g .from in
+              record {
+                walking = o;
+                from = omega arith;
+                few = omega arith;
+                above-first = λ j b. le-trans (next-upto .0) (none-below (w .number) x ex (w′ .number) (omega arith) j b);
+                above-last = none-below (w .number) x ex (w′ .number) (omega arith);
+                counts = let c = g .counts in let a = ap length next in omega arith;
+                lasts = ap (lastFrom last) (sym next) ∙ g .lasts;
+                gaps = ap (λ (y : ℕ). leastFrom y (gapsFrom x (after i e (w′ .number)))) q ∙ sym (gap-next gap last x (after i e (w′ .number))) ∙ ap (λ (S : List ℕ). leastFrom gap (gapsFrom last S)) (sym next) ∙ g .gaps;
+              }

@@ -4,14 +4,14 @@
 // none. The image is opened once and the tables are made once. The first value of a span is found by the search's halving, and a walk goes on to its end: no rank index is needed.
 ghost use mathlib.Core.Bool.{true};
 ghost use mathlib.Core.Path.{_≡_};
-ghost use mathlib.Core.List.{_++_};
-ghost use Prim.Native.Nat.{_+_, _-_, _*_, _≤_, _<_, min};
+ghost use mathlib.Core.List.{[], _∷_, _++_};
+ghost use Prim.Native.Nat.{_+_, _-_, _*_, _≤_, min};
 ghost use lib.ListN.{length, take as takeList, drop};
 ghost use Rattle.errors.specs.Answer.{leaves};
 ghost use Rattle.elias_fano.specs.Accept.{accepted, partsOf, times, ofNumber};
 ghost use Rattle.elias_fano_walk.specs.Searching.{Searchable};
 ghost use Rattle.elias_fano_walk.specs.Walking.{Walkable, WalkOver};
-ghost use Rattle.winters.specs.Adding.{withTime};
+ghost use Rattle.winters.specs.Adding.{NoneBelow, withOthers};
 ghost use Rattle.winters.specs.Winters.{inSpan, summaryOf, wordsOf, spanWords, compareAnswer, compareOf};
 use broadword::debruijn64_table;
 use broadword::select_in_byte_table;
@@ -38,34 +38,68 @@ fn lesser(a: u64, b: u64) -> u64
     if a < b { a } else { b }
 }
 
-// The summary with one value more, which is not below the others.
-fn with_time(s: Summary, t: u64) -> Summary
-    requires { ⌜ ((s .count < 16777216) × (s .first ≤ t) × (s .last ≤ t)) ⌝ }
-    ensures { λ r. ⌜ r ≡ withTime s t ⌝ }
+// The summary where there is no value.
+fn nothing() -> Summary
+    ensures { λ r. ⌜ r ≡ summaryOf [] ⌝ }
 {
-    if s.count == 0 {
+    Summary {
+        count: 0,
+        first: 0,
+        last: 0,
+        gap: 0,
+    }
+}
+
+// The summary of a value and n others after it; one value alone has no gap.
+fn with_others(first: u64, n: usize, last: u64, gap: u64) -> Summary
+    requires { ⌜ n ≤ 16777216 ⌝ }
+    ensures { λ r. ⌜ r ≡ withOthers first n last gap ⌝ }
+{
+    if n == 0 {
         return Summary {
             count: 1,
-            first: t,
-            last: t,
+            first,
+            last,
             gap: 0,
         };
     }
-    let gap = t - s.last;
-    if s.count == 1 {
-        return Summary {
-            count: 2,
-            first: s.first,
-            last: t,
-            gap,
-        };
-    }
     Summary {
-        count: s.count + 1,
-        first: s.first,
-        last: t,
-        gap: lesser(s.gap, gap),
+        count: n + 1,
+        first,
+        last,
+        gap,
     }
+}
+
+// The summary of the value `first` and of those from the walk's on and below e. The gap begins with e, which is above every gap.
+fn summarize_after(
+    image: &[u64],
+    p: Parts,
+    first: u64,
+    from: Walk,
+    e: u64,
+    places: &[u8; 64],
+) -> Summary
+    requires { ⌜ (Walkable (now image) p (now places) × WalkOver (now image) p from × NoneBelow first (drop (from .number) (times (now image)))) ⌝ }
+    ensures { λ r. ⌜ r ≡ summaryOf (first ∷ inSpan 0 e (drop (from .number) (times (now (image .entry))))) ⌝ }
+{
+    let end = p.num_pushed as usize;
+    let start = from.number;
+    let mut w = from;
+    let mut last = first;
+    let mut gap = e;
+    while w.number < end {
+        let t = take(image, p, w, places);
+        let x = t.value;
+        if e <= x {
+            return with_others(first, w.number - start, last, gap);
+        }
+        gap = lesser(gap, x - last);
+        last = x;
+        let rest = t.walk;
+        w = rest;
+    }
+    with_others(first, w.number - start, last, gap)
 }
 
 // The summary of the values from the walk's on and below e.
@@ -73,25 +107,16 @@ fn summarize_on(image: &[u64], p: Parts, from: Walk, e: u64, places: &[u8; 64]) 
     requires { ⌜ (Walkable (now image) p (now places) × WalkOver (now image) p from) ⌝ }
     ensures { λ r. ⌜ r ≡ summaryOf (inSpan 0 e (drop (from .number) (times (now (image .entry))))) ⌝ }
 {
-    let end = p.num_pushed as usize;
-    let mut w = from;
-    let mut s = Summary {
-        count: 0,
-        first: 0,
-        last: 0,
-        gap: 0,
-    };
-    while w.number < end {
-        let t = take(image, p, w, places);
-        let x = t.value;
-        if e <= x {
-            return s;
-        }
-        s = with_time(s, x);
-        let rest = t.walk;
-        w = rest;
+    if p.num_pushed as usize <= from.number {
+        return nothing();
     }
-    s
+    let t = take(image, p, from, places);
+    let first = t.value;
+    if e <= first {
+        return nothing();
+    }
+    let rest = t.walk;
+    summarize_after(image, p, first, rest, e, places)
 }
 
 // The summary of the values from s on and below e.

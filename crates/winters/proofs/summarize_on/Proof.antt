@@ -1,51 +1,50 @@
--- `winters::summarize_on` meets its contract. The invariant: the values before the walk are summed up. The measure: how many are left.
--- Assumes nothing.
-use mathlib.Core.Path.{_≡_, refl}
-use Prim.Native.Nat.{_-_}
+-- `winters::summarize_on` meets its contract. Assumes nothing.
+use borrow.Author.Needs.{needs}
+use mathlib.Core.Path.{sym, ap, _∙_}
 use native.Mathlib.Omega.{arith}
+use Rattle.winters.specs.Winters.{summaryOf}
 use Rattle.winters.proofs.Summing as summing
 use Rattle.winters.proofs.summarize_on.Statement.{statement}
 use Rattle.winters.proofs.summarize_on.Tie as tie
 
-abbrev Inv-loop : tie.InvT-loop
-Inv-loop image p e places end w₀ s₀ w s = (end ≡ p .«num_pushed») × summing.SumsOn image p e (w₀ .number) w s
+nothing-requires : tie.Need-nothing-requires
+nothing-requires c κs = search needs
 
-abbrev μ-loop : tie.MeasureT-loop
-μ-loop image p e places end w₀ s₀ w s = end - w .number
+returns : tie.Need-returns
+returns c = let s = c .before .before .before .before in c .nothing .ensures ∙ sym (ap summaryOf (summing.none-after (s .args .image .now) (s .pre .0 .ok) (s .args .p) (s .pre .0 .parts) (s .args .e) (s .args .from .number) (c .before .if1 .taken)))
 
-loop-holds : tie.Need-loop-holds Inv-loop μ-loop
-loop-holds c = let s = c .before in (refl, summing.sums-begin (s .args .image .now) (s .pre .0 .ok) (s .args .p) (s .pre .0 .parts) (s .args .e) (s .args .from) (s .pre .1))
+take-requires : tie.Need-take-requires
+take-requires c κs = search needs
 
-take-requires : tie.Need-take-requires Inv-loop μ-loop
-take-requires c κs = let s = c .before .before .before .before in (s .pre .0, c .before .before .loop .inv .1 .walking, c .if1 .taken)
+nothing-requires-2 : tie.Need-nothing-requires-2
+nothing-requires-2 c κs = search needs
 
-returns : tie.Need-returns Inv-loop μ-loop
-returns c =
-    let s = c .before .before .before .before .before .before in
-    let l = c .before .before .before .before .loop in
-    summing.sums-stop (s .args .image .now) (s .pre .0 .ok) (s .args .p) (s .pre .0 .parts) (s .args .e) _ (l .w) (l .s) (l .inv .1) (c .before .before .if1 .taken) _ (c .before .take .ensures .2) (omega (arith, c .if2 .taken))
-
-with-time-requires : tie.Need-with-time-requires Inv-loop μ-loop
-with-time-requires c κs =
-    let s = c .before .before .before .before .before .before in
-    let l = c .before .before .before .before .loop in
-    summing.sums-next (s .args .image .now) (s .pre .0 .ok) (s .args .p) (s .pre .0 .parts) (s .args .e) _ (l .w) (l .s) (l .inv .1) (c .before .before .if1 .taken) _ (c .before .take .ensures .2)
-
-loop-less : tie.Need-loop-less Inv-loop μ-loop
-loop-less c = omega (arith, c .before .before .before .take .ensures .1, c .before .before .before .before .if1 .taken)
-
-loop-again : tie.Need-loop-again Inv-loop μ-loop
-loop-again c =
-    let s = c .before .before .before .before .before .before .before .before in
-    let l = c .before .before .before .before .before .before .loop in
-    let t = c .before .before .before .take .ensures in
-    (l .inv .0, summing.sums-more (s .args .image .now) (s .pre .0 .ok) (s .args .p) (s .pre .0 .parts) (s .args .e) _ (l .w) (l .s) (l .inv .1) (c .before .before .before .before .if1 .taken) _ (t .2) (omega (arith, c .before .before .if2 .left)) _ (t .0) (t .1) _ (c .before .with-time .ensures))
-
-returns-2 : tie.Need-returns-2 Inv-loop μ-loop
+returns-2 : tie.Need-returns-2
 returns-2 c =
-    let s = c .before .before .before .before in
-    let l = c .before .before .loop in
-    summing.sums-end (s .args .image .now) (s .pre .0 .ok) (s .args .p) (s .pre .0 .parts) (s .args .e) _ (l .w) (l .s) (l .inv .1) (c .if1 .left)
+    let s = c .before .before .before .before .before .before in
+    c .nothing2 .ensures ∙ sym (ap summaryOf (summing.none-within (s .args .image .now) (s .pre .0 .ok) (s .args .p) (s .pre .0 .parts) (s .args .e) (s .args .from .number) _ (c .before .before .take .ensures .2) (omega (arith, c .before .if2 .taken))))
+
+summarize-after-requires : tie.Need-summarize-after-requires
+summarize-after-requires c κs =
+    let s = c .before .before .before .before .before .before in
+    let r = c .before .before .take in
+    let t = r .ensures in
+    (s .pre .0, t .0, summing.none-below (s .args .image .now) (s .pre .0 .ok) (s .args .p) (s .pre .0 .parts) (s .args .from .number) _ (t .2) (r .result .walk .number) (omega (arith, t .1)))
+
+returns-3 : tie.Need-returns-3
+returns-3 c =
+    let s = c .before .before .before .before .before .before .before in
+    let t = c .before .before .before .take .ensures in
+    c .summarize-after .ensures ∙ sym (ap summaryOf (summing.one-more (s .args .image .now) (s .pre .0 .ok) (s .args .p) (s .pre .0 .parts) (s .args .e) (s .args .from .number) _ (c .before .before .before .before .if1 .left) (t .2) (omega (arith, c .before .before .if2 .left)) _ (t .1)))
 
 pub summarize-on-spec : {M : Type 1} → statement M
-summarize-on-spec = tie.close (tie.spec Inv-loop μ-loop loop-holds take-requires returns with-time-requires loop-less loop-again returns-2)
+summarize-on-spec =
+    tie.close
+    (tie.spec
+    nothing-requires
+    returns
+    take-requires
+    nothing-requires-2
+    returns-2
+    summarize-after-requires
+    returns-3)
