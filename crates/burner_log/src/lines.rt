@@ -1,7 +1,4 @@
 // The lines of standard input: each is a time, which is pushed and answered.
-ghost use Prim.Native.Nat.{_≤_};
-ghost use lib.ListN.{length};
-use console_text::line;
 use console_text::output;
 use decimal::Parsed;
 use elias_fano::builder::Builder;
@@ -154,44 +151,26 @@ fn ended(
     t
 }
 
-// The part joins the line, as far as there is room.
-fn gathered(text: &mut [u8; 64], part: &[u8], s: State) -> State {
-    let mut n = s.count;
-    let mut i: usize = 0;
-    while i < part.len() {
-        if 64 <= n {
-            break;
-        }
-        text[n] = part[i];
-        n += 1;
-        i += 1;
-    }
-    let mut t = s;
-    t.count = n;
-    if i < part.len() {
-        t.long = true;
-    }
-    t
-}
-
-// The part of the input up to the line feed at `end`, or up to the input's end.
-fn part_taken(
+// A byte of the input: it joins the line, as far as there is room, or ends it.
+fn byte_taken(
     file: &[u8],
     s: State,
-    input: &[u8],
-    from: usize,
-    end: usize,
+    b: u8,
     text: &mut [u8; 64],
     words: &mut [u64],
     out: &mut [u8; 65536],
-) -> State
-    requires { ⌜ from ≤ end ⌝ }
-    requires { ⌜ end ≤ length (now input) ⌝ }
-{
-    let t = gathered(text, &input[from..end], s);
-    if end < input.len() {
-        return ended(file, t, text, words, out);
+) -> State {
+    if b == b'\n' {
+        return ended(file, s, text, words, out);
     }
+    let n = s.count;
+    let mut t = s;
+    if n < 64 {
+        text[n] = b;
+        t.count = n + 1;
+        return t;
+    }
+    t.long = true;
     t
 }
 
@@ -206,12 +185,11 @@ fn input_taken(
     let mut t = s;
     let mut at: usize = 0;
     while at < input.len() {
-        let end = line::find(input, at, b'\n');
-        t = part_taken(file, t, input, at, end, text, &mut *words, out);
+        t = byte_taken(file, t, input[at], text, &mut *words, out);
         if !t.going {
             return t;
         }
-        at = end + 1;
+        at += 1;
     }
     t
 }

@@ -1,4 +1,4 @@
--- `burner_log::lines::input_taken` is safe and ends. Each line ends further on. Assumes nothing.
+-- `burner_log::lines::input_taken` is safe and ends. `at` goes over the input. Assumes nothing.
 use native.Mathlib.Omega.{arith}
 use lib.ListN.{length}
 use Prim.Native.Nat.{_-_}
@@ -16,11 +16,11 @@ abbrev μ-loop : tie.MeasureT-loop
 loop-holds : tie.Need-loop-holds Inv-loop μ-loop
 loop-holds c = search needs
 
-find-requires : tie.Need-find-requires Inv-loop μ-loop
-find-requires c κs = search needs
+shared-slice-read-byte-taken : tie.Need-shared-slice-read-byte-taken Inv-loop μ-loop
+shared-slice-read-byte-taken c = search needs
 
-part-taken-requires : tie.Need-part-taken-requires Inv-loop μ-loop
-part-taken-requires c κs = search needs
+byte-taken-requires : tie.Need-byte-taken-requires Inv-loop μ-loop
+byte-taken-requires c κs = search needs
 
 same-length : tie.Need-same-length Inv-loop μ-loop
 same-length c = search needs
@@ -29,10 +29,7 @@ returns : tie.Need-returns Inv-loop μ-loop
 returns c = search needs
 
 add-at : tie.Need-add-at Inv-loop μ-loop
-add-at c =
-    let s = c .before .before .before .before .before .before .before .before .before .before .before .before .before .before in
-    let f = c .before .before .before .before .before .before .before .before .find in
-    record { fits = omega (arith, f .ensures, s .good) }
+add-at c = record { fits = omega (arith, c .before .before .before .before .before .before .before .before .before .loop-test .taken, c .before .before .before .before .before .before .before .before .before .before .before .before .before .before .good) }
 
 loop-less : tie.Need-loop-less Inv-loop μ-loop
 loop-less c = search needs
@@ -53,8 +50,8 @@ input-taken-spec =
     Inv-loop
     μ-loop
     loop-holds
-    find-requires
-    part-taken-requires
+    shared-slice-read-byte-taken
+    byte-taken-requires
     same-length
     returns
     add-at
