@@ -1,0 +1,3 @@
+-- Laws of the definitions of `specs/`, and of columns.
+pub mod Columns
+pub mod Computed
