@@ -10,7 +10,7 @@ use console_text::output;
 use elias_fano::builder;
 use elias_fano::image::Number;
 use errors::Refusal;
-use word_files::say;
+use record_file::sentences;
 
 pub fn log(words: &mut [u64; 524288], out: &mut [u8; 65536]) -> i32 {
     let every = arguments::number(5, 1);
@@ -72,10 +72,7 @@ fn sized(words: u64, out: &mut [u8; 65536]) -> i32 {
 }
 
 fn no_record(r: Refusal, out: &mut [u8; 65536]) -> i32 {
-    let mut at = output::text(out, 0, b"burner: there is no such record (");
-    at = output::refusal(out, at, r);
-    at = output::text(out, at, b")\n");
-    say::gathered(out, at);
+    sentences::no_record(out, r);
     1
 }
 

@@ -41,7 +41,7 @@ fn test_settings(universe: u64, num_vals: u64, len: usize, out: &mut [u8; 65536]
         }
         Number::Nothing => Tested::Stopped(1),
         Number::Refused(e) => {
-            sentences::refused(out, e);
+            sentences::no_record(out, e);
             Tested::Stopped(1)
         }
     }
@@ -116,7 +116,7 @@ pub fn finish(
         Opened::Record(b) => match build(b, rank, &mut *words) {
             Built::Words(n) => write_image(image, words, n, out),
             Built::Refused(e) => {
-                sentences::refused(out, e);
+                sentences::refused(out, b"no image can be made of it here", e);
                 1
             }
         },

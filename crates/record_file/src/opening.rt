@@ -147,7 +147,7 @@ fn begin(w: Wanted, words: &mut [u64], out: &mut [u8; 65536]) -> Opened {
     match new(w.universe, w.num_vals, words) {
         Pushed::Accepted(b) => Opened::Record(b),
         Pushed::Refused(e) => {
-            sentences::refused(out, e);
+            sentences::no_record(out, e);
             Opened::Stopped(1)
         }
     }
