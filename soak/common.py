@@ -8,7 +8,7 @@ ROOT = pathlib.Path(__file__).resolve().parent.parent
 sys.dont_write_bytecode = True
 sys.path.insert(0, str(ROOT / "oracle"))
 
-from model import HEAD, MOST, TOP, Refused, Settings, declared  # noqa: E402
+from model import HEAD, MOST, TOP, Settings  # noqa: E402
 
 WINTER = 365 * 86_400
 FACTOR = 1_099_511_628_211  # of the sum in a record's file
@@ -114,7 +114,7 @@ def decoded(raw):
         return "another sum"
     high, low = start[HEAD : settings.low_at], start[settings.low_at :]
     number = int.from_bytes(bytes_of(high), "little")
-    times, at = [], 0
+    times = []
     for k, place in enumerate(ones_of(number)):
         times.append((place - k << settings.l) + field(low, k * settings.l, settings.l))
     if len(times) != m or any(start[:HEAD]) or times != sorted(times) or (times[-1] if times else 0) != last:
@@ -145,14 +145,14 @@ def answer_to(u, n, m, last, t):
 # Programs.
 
 
-def run(command, given=b"", **options):
-    """Status, standard output and standard error of a program that gets these bytes. It may not hang, nor end by a signal."""
+def run(command, given=b"", may_die=False, **options):
+    """Status, standard output and standard error of a program that gets these bytes. It may not hang, nor end by a signal unless that is meant."""
     command = [str(word) for word in command]
     try:
         done = subprocess.run(command, input=given, capture_output=True, timeout=PATIENCE, check=False, **options)
     except subprocess.TimeoutExpired:
         raise Unexpected(f"{command} did not end within {PATIENCE} seconds") from None
-    expect(done.returncode >= 0, lambda: f"{command} ended by signal {-done.returncode}")
+    expect(may_die or done.returncode >= 0, lambda: f"{command} ended by signal {-done.returncode}")
     return done.returncode, done.stdout, done.stderr
 
 

@@ -11,6 +11,7 @@
 #include <stdio.h>
 #include <stdlib.h>
 #include <string.h>
+#include <sys/syscall.h>
 #include <unistd.h>
 
 static long calls;
@@ -31,7 +32,7 @@ static void tell(const char *name)
     int len = snprintf(line, sizeof line, "%s\n", name);
     if (fd < 0 || real_write(fd, line, (size_t)len) != len)
         abort();
-    syscall(3, fd); /* close, not counted */
+    syscall(SYS_close, fd); /* not counted */
 }
 
 static void end(void)

@@ -111,6 +111,32 @@ class Faults:
         file, _ = self.fresh(FILE=self.good[:-1], FILE_1=self.good[:-2])
         self.refused("log, FILE and FILE.1 cut", self.log(file, given=b"4999\n"), (1,), {"FILE": self.good[:-1], "FILE.1": self.good[:-2]})
 
+    def set_aside_cut(self):
+        """Signal 9 at each call on files while a damaged FILE is set aside: neither it nor FILE.1 is lost."""
+        made, bad = cuts.library(self.folder), self.good[:-1]
+        for at in range(1_000):
+            file, _ = self.fresh(FILE=bad, FILE_1=self.older)
+            given = cuts.environment(made, at, "kill")
+            status, _, told = self.log(file, given=b"4999\n", env=given, may_die=True)
+            expect(status in (0, -9), lambda: f"{cuts.shown(given)}: status {status}, {told!r}")
+            self.judge_set_aside(file, bad, cuts.shown(given))
+            if status == 0:
+                return
+            self.count("cuts while a record is set aside")
+
+    def judge_set_aside(self, file, bad, what):
+        """After a cut, and after the next start."""
+        before = self.seen()
+        expect(bad in before.values() and self.older in before.values(), lambda: f"{what}: a file is lost, there are {sorted(before)}")
+        answer = self.log(file, given=b"4999\n")
+        if answer[0] == 0:
+            held = decoded(contents(file))
+            expect(held[2][: HELD - 2] == self.times[:-2] and held[2][HELD - 2] == 4_999, f"{what}: FILE holds another list after the next start")
+            expect(bad in self.seen().values(), f"{what}: the damaged file is lost after the next start")
+            return
+        self.refused(f"{what}, the next start", answer, (1,), before)
+        self.count("of them with a next start that is refused")
+
     def other_settings(self):
         file, _ = self.fresh(FILE=self.good)
         for u, n in ((UNIVERSE + 1, COUNT), (UNIVERSE, COUNT + 1), (UNIVERSE - 1, COUNT), (0, COUNT), (UNIVERSE, 0), (UNIVERSE, MOST + 1), (2**64 - 1, MOST)):
@@ -304,7 +330,7 @@ class Faults:
 
     def all(self):
         for part in (
-            self.record_damaged, self.record_with_old, self.other_settings, self.image_damaged, self.places, self.barred, self.short_writes, self.full_disk, self.failing_calls,
+            self.record_damaged, self.record_with_old, self.set_aside_cut, self.other_settings, self.image_damaged, self.places, self.barred, self.short_writes, self.full_disk, self.failing_calls,
         ):
             part()
 

@@ -134,8 +134,8 @@ def judge_answers(child):
 
 
 def judge_told(child, before, tally):
-    """It says what it resumes: just what stood on disk."""
-    if not child.told:
+    """It says what it resumes: just what stood on disk. The kill may have come before, or in the middle of the sentence."""
+    if not child.told.endswith(b"\n"):
         return
     expect(not before.none, lambda: f"nothing was there, and it said {child.told!r}")
     found = HOLDS.fullmatch(child.told)
