@@ -1,7 +1,7 @@
 /* Loaded before a program (LD_PRELOAD): ends or fails it at one of its calls on files. Standard input, output and error are left alone.
  *    CUT_AT=N     the call with the number N, counted from 0
  *    CUT_HOW      kill: signal 9 before it; half: a write of half its bytes, then signal 9; a number: the call fails with that errno
- *    CUT_TOLD     a file that gets a line for each call, so that it is known how many there are */
+ *    CUT_TOLD     a file that gets a line for each call: its name, and the path, the new path or the descriptor */
 #define _GNU_SOURCE
 #include <dlfcn.h>
 #include <errno.h>
@@ -16,7 +16,7 @@
 
 static long calls;
 
-static void tell(const char *name)
+static void tell(const char *name, const char *path)
 {
     static ssize_t (*real_write)(int, const void *, size_t);
     static int (*real_open)(const char *, int, ...);
@@ -28,11 +28,18 @@ static void tell(const char *name)
         real_open = (int (*)(const char *, int, ...))dlsym(RTLD_NEXT, "open");
     }
     int fd = real_open(told, O_WRONLY | O_CREAT | O_APPEND, 0600);
-    char line[64];
-    int len = snprintf(line, sizeof line, "%s\n", name);
+    char line[8192];
+    int len = snprintf(line, sizeof line, "%s %s\n", name, path);
     if (fd < 0 || real_write(fd, line, (size_t)len) != len)
         abort();
     syscall(SYS_close, fd); /* not counted */
+}
+
+static const char *number(int fd)
+{
+    static char text[16];
+    snprintf(text, sizeof text, "%d", fd);
+    return text;
 }
 
 static void end(void)
@@ -43,10 +50,10 @@ static void end(void)
 }
 
 /* 1 if this call is to fail, 2 if it is to write half. */
-static int met(const char *name)
+static int met(const char *name, const char *path)
 {
     const char *at = getenv("CUT_AT"), *how = getenv("CUT_HOW");
-    tell(name);
+    tell(name, path);
     if (!at || !how || calls++ != atol(at))
         return 0;
     if (!strcmp(how, "kill"))
@@ -66,19 +73,19 @@ int open(const char *path, int flags, ...)
     va_start(more, flags);
     int mode = flags & O_CREAT ? va_arg(more, int) : 0;
     va_end(more);
-    return met("open") == 1 ? -1 : next(path, flags, mode);
+    return met("open", path) == 1 ? -1 : next(path, flags, mode);
 }
 
 ssize_t read(int fd, void *bytes, size_t count)
 {
     NEXT(ssize_t, "read", int, void *, size_t);
-    return fd > 2 && met("read") == 1 ? -1 : next(fd, bytes, count);
+    return fd > 2 && met("read", number(fd)) == 1 ? -1 : next(fd, bytes, count);
 }
 
 ssize_t write(int fd, const void *bytes, size_t count)
 {
     NEXT(ssize_t, "write", int, const void *, size_t);
-    int how = fd > 2 ? met("write") : 0;
+    int how = fd > 2 ? met("write", number(fd)) : 0;
     if (how == 1)
         return -1;
     if (how == 2) {
@@ -91,23 +98,23 @@ ssize_t write(int fd, const void *bytes, size_t count)
 int fsync(int fd)
 {
     NEXT(int, "fsync", int);
-    return met("fsync") == 1 ? -1 : next(fd);
+    return met("fsync", number(fd)) == 1 ? -1 : next(fd);
 }
 
 int close(int fd)
 {
     NEXT(int, "close", int);
-    return fd > 2 && met("close") == 1 ? -1 : next(fd);
+    return fd > 2 && met("close", number(fd)) == 1 ? -1 : next(fd);
 }
 
 int rename(const char *from, const char *to)
 {
     NEXT(int, "rename", const char *, const char *);
-    return met("rename") == 1 ? -1 : next(from, to);
+    return met("rename", to) == 1 ? -1 : next(from, to);
 }
 
 int unlink(const char *path)
 {
     NEXT(int, "unlink", const char *);
-    return met("unlink") == 1 ? -1 : next(path);
+    return met("unlink", path) == 1 ? -1 : next(path);
 }

@@ -17,5 +17,10 @@ def environment(made, at, how):
     return {**os.environ, "LD_PRELOAD": str(made), "CUT_AT": str(at), "CUT_HOW": str(how)}
 
 
+def told_environment(made, told):
+    """No call is cut, and each is told."""
+    return {**os.environ, "LD_PRELOAD": str(made), "CUT_TOLD": str(told)}
+
+
 def shown(given):
     return f"CUT_AT={given['CUT_AT']} CUT_HOW={given['CUT_HOW']}"

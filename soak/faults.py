@@ -111,6 +111,24 @@ class Faults:
         file, _ = self.fresh(FILE=self.good[:-1], FILE_1=self.good[:-2])
         self.refused("log, FILE and FILE.1 cut", self.log(file, given=b"4999\n"), (1,), {"FILE": self.good[:-1], "FILE.1": self.good[:-2]})
 
+    def plug(self):
+        """What a pulled plug may leave of a save: FILE.new with any part of its bytes, the rest missing or 0, and none, one or both of the renames."""
+        later = record_file(UNIVERSE, COUNT, [*self.times, 4_999])
+        right = {"FILE": later, "FILE.1": self.good}
+        for length in range(len(later) + 1):
+            if self.random.random() > self.share:
+                continue
+            for new in (later[:length], later[:length] + b"\0" * (len(later) - length)):
+                for files in ({"FILE": self.good, "FILE_1": self.older}, {"FILE": self.good}, {"FILE_1": self.good}):
+                    file, _ = self.fresh(FILE_new=new, **files)
+                    self.accepted(f"log, {names(files)}, {length} bytes of FILE.new", self.log(file, given=b"4999\n"), b"ok\n")
+                    expect(self.seen() == right, lambda: f"{names(files)}, {length} bytes of FILE.new: {difference(right, self.seen())}")
+                    self.count("pulled plugs")
+        file, _ = self.fresh(FILE=self.good, FILE_1=self.older[:-8])
+        self.accepted("log, FILE.1 cut", self.log(file, given=b"4999\n"), b"ok\n")
+        expect(self.seen() == right, lambda: f"FILE.1 cut: {difference(right, self.seen())}")
+        self.count("pulled plugs")
+
     def set_aside_cut(self):
         """Signal 9 at each call on files while a damaged FILE is set aside: neither it nor FILE.1 is lost."""
         made, bad = cuts.library(self.folder), self.good[:-1]
@@ -218,21 +236,17 @@ class Faults:
             ("an IMAGE in a folder that may not be written", 0o555, {}, None),
         )
         for what, folder_mode, modes, given in cases:
-            file, image = self.fresh(FILE=self.good, FILE_new=b"new", IMAGE=b"old")
-            if who and "FILE.new" not in modes:
-                beside(file, ".new").unlink()
+            before = {"FILE": self.good, "IMAGE": b"old", **({"FILE.new": b"new"} if "FILE.new" in modes else {})}
+            file, image = self.fresh(**{name.replace(".", "_"): raw for name, raw in before.items()})
             for path in self.place.iterdir():
                 path.chmod(modes.get(path.name, 0o666))
                 if who and path.name != "FILE.new":
                     os.chown(path, NOBODY, NOBODY)
             self.place.chmod(folder_mode)
-            before = self.seen() if who else None
             answer = self.burner("finish", file, image, 0, **who) if given is None else self.log(file, given=given, **who)
             self.place.chmod(0o777)
-            if before is None:
-                for path in self.place.iterdir():
-                    path.chmod(0o666)
-                before = {"FILE": self.good, "FILE.new": b"new", "IMAGE": b"old"}
+            for path in self.place.iterdir():
+                path.chmod(0o666)
             self.refused(what, answer, (2,), before)
             self.count("barred")
 
@@ -330,7 +344,7 @@ class Faults:
 
     def all(self):
         for part in (
-            self.record_damaged, self.record_with_old, self.set_aside_cut, self.other_settings, self.image_damaged, self.places, self.barred, self.short_writes, self.full_disk, self.failing_calls,
+            self.record_damaged, self.record_with_old, self.plug, self.set_aside_cut, self.other_settings, self.image_damaged, self.places, self.barred, self.short_writes, self.full_disk, self.failing_calls,
         ):
             part()
 
