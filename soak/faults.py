@@ -6,7 +6,7 @@ import shutil
 import subprocess
 
 import cuts
-from common import MOST, Settings, Unexpected, beside, bytes_of, contents, counted, decoded, expect, is_sentence, record_file, run, words_in
+from common import MOST, Settings, Unexpected, bytes_of, contents, counted, decoded, expect, is_sentence, record_file, run, words_in
 from model import Record
 
 UNIVERSE, COUNT, HELD = 5_000, 24, 20

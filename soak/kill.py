@@ -6,7 +6,7 @@ import subprocess
 import time
 
 import cuts
-from common import TOP, Settings, answer_to, beside, bytes_of, contents, counted, decoded, expect, run
+from common import TOP, Settings, Unexpected, answer_to, beside, bytes_of, contents, counted, decoded, expect, run
 
 COUNTS = (300, 3_000, 60_000)  # declared, one after the other
 SPAN = 6_000  # seconds of the universe for each
@@ -61,7 +61,7 @@ class Child:
     """A `burner log` that is fed, and killed at its moment unless it ends before."""
 
     def __init__(self, feed, environment=None):
-        self.feed, self.said, self.told, self.rest = feed, b"", b"", b""
+        self.feed, self.said, self.told, self.sent, self.rest = feed, b"", b"", b"", b""
         self.fed = False  # whether its input has ended
         pipe = subprocess.PIPE
         command = [str(word) for word in feed.case.command()]
@@ -76,7 +76,9 @@ class Child:
 
     def give(self, lines):
         """Sends what is left over, or lines anew."""
-        self.rest = self.rest or b"".join(self.feed.line() for _ in range(lines))
+        if not self.rest:
+            self.rest = b"".join(self.feed.line() for _ in range(lines))
+            self.sent += self.rest
         try:
             self.rest = self.rest[self.process.stdin.write(self.rest) or 0 :]
         except BrokenPipeError:
@@ -173,6 +175,16 @@ def judge_disk(child, before, after, oks, tally):
 
 
 def judge(child, before, tally):
+    """All of it; where something is not right, what was sent and answered is kept beside the file."""
+    try:
+        return judged(child, before, tally)
+    except Unexpected:
+        for suffix, raw in ((".sent", child.sent), (".said", child.said), (".told", child.told)):
+            beside(child.feed.case.path, suffix).write_bytes(raw)
+        raise
+
+
+def judged(child, before, tally):
     oks, answers = judge_answers(child)
     tally.answers += answers
     judge_told(child, before, tally)
@@ -185,7 +197,7 @@ def judge(child, before, tally):
 
 def moment(random):
     """How long a child lives, in seconds: mostly a few milliseconds."""
-    return random.random() * random.choice((0.003, 0.01, 0.02, 0.04, 0.08))
+    return random.random() * random.choice((0.003, 0.01, 0.02, 0.04, 0.08, 0.15))
 
 
 def close_record(case, times, tally):

@@ -5,7 +5,7 @@ import math
 import subprocess
 from array import array
 
-from common import HEAD, MOST, ROOT, TOP, WINTER, Settings, Unexpected, answer_to, counted, expect, start_words
+from common import MOST, TOP, WINTER, Settings, Unexpected, answer_to, counted, start_words
 
 DAY = 86_400
 WEEK = 7 * DAY
