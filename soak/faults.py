@@ -322,9 +322,9 @@ class Faults:
                 told = self.folder / "told"
                 told.unlink(missing_ok=True)
                 answer = self.log(file, given=b"4999\n4999\n", env={**given, "CUT_TOLD": str(told)})
-                self.judge_failed(answer, file, f"log, {cuts.shown(given)}")
                 if told.read_bytes().count(b"\n") <= at:
                     break
+                self.judge_failed(answer, file, f"log, {cuts.shown(given)}")
 
     def judge_failed(self, answer, file, what):
         status, said, told = answer
