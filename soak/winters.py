@@ -111,7 +111,7 @@ class Book:
 
     def same(self, got, right, what):
         if got != right:
-            raise Unexpected(f"{what}, universe {self.u}, {self.n} declared, {len(self.times)} times: {short(got)} where {short(right)} is right")
+            raise Unexpected(f"{what}, universe {self.u}, {self.n} declared, {len(self.times)} times: {differing(got, right)} is right")
 
     def refusal(self, answer, number, before, builder=None):
         """A refused call: its number, its builder, and no word altered."""
@@ -296,10 +296,12 @@ class Book:
         self.tally.add("questions")
 
 
-def short(value):
-    """A value as a failure shows it."""
-    text = repr(list(value)) if isinstance(value, array) else repr(value)
-    return text if len(text) <= 300 else text[:300] + " .."
+def differing(got, right):
+    """Both, or of words the first that differs."""
+    if isinstance(got, array) and len(got) == len(right):
+        at = next(i for i, (g, r) in enumerate(zip(got, right)) if g != r)
+        return f"word {at} is {got[at]} where {right[at]}"
+    return f"{got} where {right}"
 
 
 def starts_of(random, begin, density):
