@@ -143,17 +143,14 @@ class Faults:
             self.count("cuts while a record is set aside")
 
     def judge_set_aside(self, file, bad, what):
-        """After a cut, and after the next start."""
+        """After a cut, and after the next start, which goes on."""
         before = self.seen()
         expect(bad in before.values() and self.older in before.values(), lambda: f"{what}: a file is lost, there are {sorted(before)}")
-        answer = self.log(file, given=b"4999\n")
-        if answer[0] == 0:
-            held = decoded(contents(file))
-            expect(held[2][: HELD - 2] == self.times[:-2] and held[2][HELD - 2] == 4_999, f"{what}: FILE holds another list after the next start")
-            expect(bad in self.seen().values(), f"{what}: the damaged file is lost after the next start")
-            return
-        self.refused(f"{what}, the next start", answer, (1,), before)
-        self.count("of them with a next start that is refused")
+        status, _, told = self.log(file, given=b"4999\n")
+        expect(status == 0, lambda: f"{what}, the next start: status {status}, {told!r}")
+        held = decoded(contents(file))
+        expect(held[2][: HELD - 2] == self.times[:-2] and held[2][HELD - 2] == 4_999, f"{what}: FILE holds another list after the next start")
+        expect(bad in self.seen().values(), f"{what}: the damaged file is lost after the next start")
 
     def other_settings(self):
         file, _ = self.fresh(FILE=self.good)
