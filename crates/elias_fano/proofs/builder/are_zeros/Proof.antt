@@ -26,7 +26,7 @@ shared-slice-read-if1 : tie.Need-shared-slice-read-if1 Inv-loop μ-loop
 shared-slice-read-if1 c = omega arith
 
 returns : tie.Need-returns Inv-loop μ-loop
-returns c = let l = c .before .before .before .loop in sym (l .inv .1 ∙ resuming.one-set _ (l .i) (omega arith) (c .if1 .taken))
+returns c = let l = c .before .before .before .loop in sym (l .inv .1 ∙ resuming.one-set _ (l .i) (omega arith) (λ e. omega (arith, e, c .if1 .taken)))
 
 add-i : tie.Need-add-i Inv-loop μ-loop
 add-i c = search needs
@@ -35,7 +35,7 @@ loop-less : tie.Need-loop-less Inv-loop μ-loop
 loop-less c = search needs
 
 loop-again : tie.Need-loop-again Inv-loop μ-loop
-loop-again c = let l = c .before .before .before .loop in (omega arith, l .inv .1 ∙ resuming.next-zero _ (l .i) (omega arith) (c .if1 .left))
+loop-again c = let l = c .before .before .before .loop in (omega arith, l .inv .1 ∙ resuming.next-zero _ (l .i) (omega arith) (omega (arith, c .if1 .left)))
 
 returns-2 : tie.Need-returns-2 Inv-loop μ-loop
 returns-2 c = let l = c .before .loop in sym (l .inv .1 ∙ resuming.none-left _ (l .i) (c .loop-test .left))
