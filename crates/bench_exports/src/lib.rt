@@ -3,6 +3,8 @@
 //
 // The functions are proved safe and ending, and that each call's demands are met. Their contracts say nothing of the sums, which the driver
 // compares with those of the Rust. A none counts as 64 for a place in a word, and as the length for a place in a bit vector.
+#![tactic(auto)]
+
 ghost use Rattle.std.specs.Prelude.{ℕ, List};
 ghost use Rattle.broadword.specs.Places.{SelectInByte, Debruijn64};
 ghost use Rattle.bit_vectors.specs.Walk.{Walking};

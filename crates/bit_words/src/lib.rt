@@ -1,6 +1,8 @@
 // The words of a bit vector: what the calls on it, and the layers that hold words of their own, share.
 //
 // `words_for` and `is_invalid` take anything. The others are inner: each demands the words that it reads, as its `requires` says.
+#![tactic(auto)]
+
 ghost use Rattle.std.specs.Prelude.{◌≡◌, true, ◌+◌, ◌-◌, ◌*◌, ◌/◌, ◌%◌, ◌^◌, ◌<◌, ◌≤◌, ◌++◌, length, get_or, take, drop, replicate};
 ghost use Rattle.broadword.specs.Bits.{count};
 ghost use Rattle.broadword.specs.Places.{last, select, Debruijn64};

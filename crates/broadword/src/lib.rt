@@ -3,6 +3,8 @@
 // All run in constant time. `select_in_word_by` and `lsb_by` are `select_in_word` and `lsb` for a caller that loops: they are lent the table, which
 // `select_in_byte_table` and `debruijn64_table` make, and demand that it is that table. `select_in_word_within` also demands that there is such a
 // one. The functions that are not public demand what they say.
+#![tactic(auto)]
+
 ghost use Rattle.std.specs.Prelude.{◌≡◌, ℕ, ◌*◌, ◌%◌, ◌^◌, ◌<◌, leb};
 ghost use Rattle.broadword.specs.Bits.{bit, ones};
 ghost use Rattle.broadword.specs.Fields.{digit, word, flag, LowBytes};

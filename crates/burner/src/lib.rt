@@ -1,5 +1,7 @@
 // The program `burner`, for the bench and the service laptop: a record kept in a file, the image made of it, and questions over images. burner/main.c is its
 // `main`, since a program of this language has no exit status: 0 done, 1 refused, 2 usage or a file that cannot be read or written.
+#![tactic(auto)]
+
 mod arguments;
 mod images;
 mod records;

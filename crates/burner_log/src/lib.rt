@@ -1,5 +1,7 @@
 // The burner's commands that write: `log` files the times that standard input gives into a record in a file, `finish` makes an image of it.
 // Both answer an exit status: 0 done, 1 refused, 2 a file that cannot be read or written.
+#![tactic(auto)]
+
 mod lines;
 
 use console_text::line::wide;

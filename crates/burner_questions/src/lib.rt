@@ -1,4 +1,6 @@
 // The program's questions over an image: each writes its answer to standard output, or a sentence to standard error, and answers the exit status.
+#![tactic(auto)]
+
 pub mod ask;
 mod cells;
 mod figures;

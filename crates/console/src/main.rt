@@ -1,4 +1,6 @@
 // The console: reads standard input to its end, one command a line, and writes one line for each.
+#![tactic(auto)]
+
 ghost use Rattle.std.specs.Prelude.{◌≤◌, length};
 
 mod bits;

@@ -1,4 +1,6 @@
 // The console's questions over the image of a record, and how many words are enough for one.
+#![tactic(auto)]
+
 ghost use Rattle.std.specs.Prelude.{◌≡◌};
 ghost use Rattle.console_text.specs.Gathered.{gathered};
 ghost use Rattle.console_text.specs.Says.{says_of};

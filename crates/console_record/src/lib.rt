@@ -1,4 +1,6 @@
 // The console's section Record, but for the questions: a lent buffer, a builder, and how many of the buffer's first words are the image.
+#![tactic(auto)]
+
 ghost use Rattle.std.specs.Prelude.{◌≡◌};
 ghost use Rattle.console_record.specs.Section.{turn_of, lending, fits_of, done_of, answer_of};
 

@@ -1,4 +1,6 @@
 // The console's sparse vector: its length and its choice are held here, and its image is the console's.
+#![tactic(auto)]
+
 ghost use Rattle.std.specs.Prelude.{◌≡◌, false, List, ℕ};
 ghost use Rattle.bit_vectors.specs.Queries.{of_bit, of_count, of_place};
 ghost use Rattle.sarray.specs.Ask.{sparse_query};

@@ -1,5 +1,7 @@
 // The console's records by one call: prefix sums, built from the numbers of a line and asked by place, by a walk and for their number, and the
 // record of its bits.
+#![tactic(auto)]
+
 ghost use Rattle.std.specs.Prelude.{◌≡◌};
 ghost use Rattle.console_text.specs.Gathered.{gathered};
 ghost use Rattle.console_text.specs.Says.{says_of};

@@ -1,6 +1,8 @@
 // Constant-time select on bit vectors by an index over their ones or their zeros.
 //
 // `select1` and `select0` are inner, as `select` is: they demand the index of the bits over the ones, or over the zeros.
+#![tactic(auto)]
+
 ghost use Rattle.std.specs.Prelude.{◌≡◌, true, false};
 ghost use Rattle.errors.specs.Answer.{leaves};
 ghost use Rattle.broadword.specs.Places.{select as select_bit};

@@ -8,7 +8,7 @@ use native.Mathlib.Nat.{mod-eq_of_lt, pow-suc, one-le-pow}
 use native.Mathlib.Omega.{arith}
 use lib.ListN.{length, take, drop, get_or, get_or-append}
 use lib.Seq.{take_at, drop_at, length-take-le}
-use lib.Arith.{mod_mul}
+use lib.Arith.{mod-mul}
 use lib.Dec.{ltb}
 use borrow.Author.Tests.{ltb-true, ltb-false, lt-ltb, le-ltb, le-leb}
 use Rattle.decimal.specs.declared.Parsed.TheVariants.{Value, TooLarge}
@@ -48,7 +48,7 @@ digits_value zero x = omega arith
 digits_value (suc k) x =
     let e = value_snoc 0 (digits k (x / 10)) (48 + x % 10) in
     let h = digits_value k (x / 10) in
-    let m : x % (10 ^ k * 10) ≡ (x / 10 % 10 ^ k) * 10 + x % 10 = mod_mul x (one-le-pow k 10 (omega arith)) (omega arith) in
+    let m : x % (10 ^ k * 10) ≡ (x / 10 % 10 ^ k) * 10 + x % 10 = mod-mul x (one-le-pow k 10 (omega arith)) (omega arith) in
     rw (pow-suc 10 k) (omega arith)
 
 -- a number below 10 ^ (f + 1) is below 10 to the number of its digits

@@ -1,4 +1,6 @@
 // Decimal text to a u64 and back. `parse` passes over the text twice at most, `write` divides twice for each digit.
+#![tactic(auto)]
+
 ghost use Rattle.std.specs.Prelude.{true, ◌++◌, ◌≡◌, ◌+◌, ◌≤◌, length, take, drop};
 ghost use Rattle.decimal.specs.Decimal.{is_digit, all_digits, value_from, sized, parse_of, digits, num_digits, left, write_of};
 

@@ -1,4 +1,6 @@
 // A monotone sequence by Elias-Fano encoding, in lent words.
+#![tactic(auto)]
+
 pub mod builder;
 pub mod finish;
 pub mod image;

@@ -1,4 +1,6 @@
 // Lists of calls on a record, performed one after the other as the model has them.
+#![tactic(auto)]
+
 ghost use Rattle.std.specs.Prelude.{◌≡◌, List, ℕ, ◌+◌, ◌*◌, ◌/◌, ◌<◌, length};
 ghost use Rattle.elias_fano.specs.Made.{made, of_pushed, of_built};
 ghost use Rattle.elias_fano_model.specs.Demand3.{step_of, closes};

@@ -2,6 +2,8 @@
 //
 // Each public question opens the image first and decides 7 by it, in time linear in its words. The form for an image that is open costs a
 // constant but for what its comment says, and is lent the table.
+#![tactic(auto)]
+
 pub mod delta;
 pub mod header;
 pub mod neighbours;

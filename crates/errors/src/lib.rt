@@ -1,4 +1,6 @@
 // The refusals of every layer. A refused call alters no word.
+#![tactic(auto)]
+
 ghost use Rattle.std.specs.Prelude.{◌≡◌};
 ghost use Rattle.errors.specs.Refusal.{number_of};
 

@@ -3,6 +3,8 @@
 //
 // Here a record is written and opened; `ask` has one question a call, `many` as many as an array holds, `sums` the prefix sums, `sparse` the sparse
 // bit vector.
+#![tactic(auto)]
+
 ghost use Rattle.std.specs.Prelude.{◌≡◌};
 ghost use Rattle.elias_fano.specs.Accept.{open_of};
 ghost use Rattle.elias_fano.specs.Made.{made};

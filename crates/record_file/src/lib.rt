@@ -1,4 +1,6 @@
 // A record that is still written, in a file: its builder's four numbers, the sum of them and the words, and then the words of its start.
+#![tactic(auto)]
+
 ghost use Rattle.std.specs.Prelude.{◌≡◌, ◌-◌, ◌≤◌, length, take, drop};
 ghost use Rattle.record_file.specs.Sum.{sum_of};
 ghost use Rattle.darray.specs.Pending.{Decides};

@@ -1,7 +1,7 @@
 -- What is claimed of the counts: they add up, the whole week counts every time, and the image of a list counts as the list. Assumes nothing.
 use mathlib.Core.Path.{◌≡◌, refl, sym, ap, ap₂, ◌∙◌}
 use mathlib.Core.List.{List, [], ◌∷◌}
-use mathlib.Core.Bool.{Bool, true, false, cond, and_false}
+use mathlib.Core.Bool.{Bool, true, false, cond, and-false}
 use Prim.Native.Nat.{ℕ, ◌+◌, ◌-◌, ◌%◌, ◌≤◌, ◌<◌, zero-le}
 use native.Mathlib.Nat.{le_trans, lt_of_lt_of_le, lt_of_not-le}
 use native.Mathlib.Decide.{dec_le, dec_lt}
@@ -100,7 +100,7 @@ of_list u n c T ws s e h =
 no_windows : (s e : ℕ) (T : List ℕ) → count_in [] s e T ≡ 0
 unfolding count_in in_some
 no_windows s e [] = refl
-no_windows s e (t ∷ T) = ap₂ (λ (b : Bool) (n : ℕ). flag b + n) (and_false (between s e t)) (no_windows s e T)
+no_windows s e (t ∷ T) = ap₂ (λ (b : Bool) (n : ℕ). flag b + n) (and-false (between s e t)) (no_windows s e T)
 
 pub claims : Claims
 claims = record { adds = adds; answers_add = answers_add; whole-week = whole-week; no_span = counting.count_no_span; no_windows = no_windows; of_list = of_list }

@@ -1,7 +1,7 @@
 -- How many times of a list are in the windows: by the times from one on and to the span's end, by windows in order, and the answers. T is the list of times, i an image. Assumes nothing.
 use mathlib.Core.Path.{◌≡◌, refl, sym, ap, ap₂, ◌∙◌, subst}
 use mathlib.Core.List.{List, [], ◌∷◌}
-use mathlib.Core.Bool.{Bool, true, false, ◌&&◌, and_false}
+use mathlib.Core.Bool.{Bool, true, false, ◌&&◌, and-false}
 use Prim.Native.Nat.{ℕ, zero, suc, ◌+◌, ◌%◌, ◌≤◌, ◌<◌, suc-le-suc, zero-le}
 use native.Mathlib.Nat.{le_trans, lt_of_not-le}
 use native.Mathlib.Decide.{dec_lt}
@@ -42,7 +42,7 @@ module _ (ws : List ℕ) where
   counts_before s e t h = simp (lt-leb s t h)
 
   pub counts_past : (s e t : ℕ) → e ≤ t → is_counted ws s e t ≡ false
-  counts_past s e t h = ap (λ (b : Bool). leb s t && b && in_some ws (t % week)) (le-ltb t e h) ∙ ap (λ (b : Bool). b && in_some ws (t % week)) (and_false (leb s t))
+  counts_past s e t h = ap (λ (b : Bool). leb s t && b && in_some ws (t % week)) (le-ltb t e h) ∙ ap (λ (b : Bool). b && in_some ws (t % week)) (and-false (leb s t))
 
   pub counts_in : (s e t : ℕ) → s ≤ t → t < e → is_counted ws s e t ≡ in_some ws (t % week)
   counts_in s e t h k = simp (le-leb s t h, lt-ltb t e k)

@@ -1,7 +1,7 @@
 -- The cuts: how many are at or below a second, found from some on; that it is in the windows if that number is odd; and where the search begins in each part of the week. Assumes nothing.
 use mathlib.Core.Path.{◌≡◌, sym, ap, ◌∙◌, subst, subst₂}
 use mathlib.Core.List.{List, [], ◌∷◌}
-use mathlib.Core.Bool.{Bool, true, false, ◌&&◌, ◌||◌, and_false}
+use mathlib.Core.Bool.{Bool, true, false, ◌&&◌, ◌||◌, and-false}
 use Prim.Native.Nat.{ℕ, zero, suc, ◌+◌, ◌*◌, ◌/◌, ◌%◌, ◌≤◌, ◌<◌, suc-le-suc, zero-le}
 use native.Mathlib.Nat.{le_trans, lt_of_lt_of_le, lt_of_not-le}
 use native.Mathlib.Decide.{dec_le, ℕ_discrete}
@@ -46,7 +46,7 @@ module _ (a b r : ℕ) where
   before_window h = ap (λ (t : Bool). t && ltb r b) (lt-leb a r h)
 
   after_window : b ≤ r → between a b r ≡ false
-  after_window h = ap (λ (t : Bool). leb a r && t) (le-ltb r b h) ∙ and_false (leb a r)
+  after_window h = ap (λ (t : Bool). leb a r && t) (le-ltb r b h) ∙ and-false (leb a r)
 
   in_window : a ≤ r → r < b → between a b r ≡ true
   in_window h k = simp (le-leb a r h, lt-ltb r b k)

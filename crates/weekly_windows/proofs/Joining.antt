@@ -1,7 +1,7 @@
 -- A window joins windows in order: they are in order then, and a second is in them if it was in them or is in the window. Assumes nothing.
 use mathlib.Core.Path.{◌≡◌, refl, sym, ap, ap₂, ◌∙◌}
 use mathlib.Core.List.{List, [], ◌∷◌}
-use mathlib.Core.Bool.{Bool, true, false, ◌&&◌, ◌||◌, or_assoc, or_comm, or_false}
+use mathlib.Core.Bool.{Bool, true, false, ◌&&◌, ◌||◌, or_assoc, or_comm, or-false}
 use Prim.Native.Nat.{ℕ, ◌≤◌, ◌<◌, min, max}
 use native.Mathlib.Nat.{le_trans, lt_of_not-le}
 use native.Mathlib.Decide.{dec_le, dec_lt}
@@ -100,8 +100,8 @@ rising-inserted u lo x y (c ∷ d ∷ ws) e h k l =
 
 pub inside_joined : (o ws : List ℕ) (r : ℕ) → in_some (joined o ws) r ≡ (in_some o r || in_some ws r)
 unfolding in_some joined
-inside_joined o [] r = sym (or_false (in_some o r))
-inside_joined o (a ∷ []) r = sym (or_false (in_some o r))
+inside_joined o [] r = sym (or-false (in_some o r))
+inside_joined o (a ∷ []) r = sym (or-false (in_some o r))
 inside_joined o (a ∷ b ∷ ws) r =
     inside_joined (inserted a b o) ws r
     ∙ ap (λ (t : Bool). t || in_some ws r) (inside_inserted a b o r ∙ or_comm (between a b r) (in_some o r))

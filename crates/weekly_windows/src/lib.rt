@@ -3,6 +3,8 @@
 // A window is two words, a and b, seconds of the week of 604,800 with a below b and b at most 604,800; a belongs to it, b does not. There are 32 at most, in any order, and they may
 // overlap. The windows are put in order once; the first value of the span is found by the search's halving, and a walk goes on to its end. A value costs a step of the walk, a
 // remainder and a comparison or two. No rank index is needed.
+#![tactic(auto)]
+
 ghost use Rattle.std.specs.Prelude.{◌≡◌, true, take as take_list, drop};
 ghost use Rattle.elias_fano.specs.Accept.{times, of_number};
 ghost use Rattle.elias_fano_walk.specs.Searching.{Searchable};

@@ -1,7 +1,7 @@
 -- The times of a span: one after the other, and those from the first on that is not below the span's beginning. T is a list of times. Assumes nothing.
 use mathlib.Core.Path.{◌≡◌, refl, sym, ap, ◌∙◌}
 use mathlib.Core.List.{List, [], ◌∷◌}
-use mathlib.Core.Bool.{Bool, true, false, ◌&&◌, cond, and_false}
+use mathlib.Core.Bool.{Bool, true, false, ◌&&◌, cond, and-false}
 use Prim.Native.Nat.{ℕ, zero, suc, ◌≤◌, ◌<◌, suc-le-suc, zero-le}
 use native.Mathlib.Nat.{le_trans, lt_of_not-le}
 use native.Mathlib.Decide.{dec_lt}
@@ -30,7 +30,7 @@ module _ (s e t : ℕ) (T : List ℕ) where
   span_before h = by_test false (simp (lt-leb s t h))
 
   pub span_past : e ≤ t → in_span s e (t ∷ T) ≡ in_span s e T
-  span_past h = by_test false (ap (λ (b : Bool). leb s t && b) (le-ltb t e h) ∙ and_false (leb s t))
+  span_past h = by_test false (ap (λ (b : Bool). leb s t && b) (le-ltb t e h) ∙ and-false (leb s t))
 
 pub span_nil : (s e : ℕ) → in_span s e [] ≡ []
 unfolding in_span

@@ -2,6 +2,8 @@
 //
 // The seconds s0 s1 .. are cut points: the spans are s0 to s1, s1 to s2 and so on. A value t is in the span from s to e if s <= t < e; a span that does not end after its beginning has
 // none. The image is opened once and the tables are made once. The first value of a span is found by the search's halving, and a walk goes on to its end: no rank index is needed.
+#![tactic(auto)]
+
 ghost use Rattle.std.specs.Prelude.{true, ◌≡◌, [], ◌∷◌, ◌++◌, ◌+◌, ◌-◌, ◌*◌, ◌≤◌, min, length, take as take_list, drop};
 ghost use Rattle.errors.specs.Answer.{leaves};
 ghost use Rattle.elias_fano.specs.Accept.{accepted, parts_of, times, of_number};

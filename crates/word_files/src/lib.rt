@@ -1,4 +1,6 @@
 // Words in files: a file holds words of 8 bytes, little end first.
+#![tactic(auto)]
+
 ghost use Rattle.std.specs.Prelude.{length};
 ghost use Rattle.word_files.specs.Files.{Within};
 

@@ -15,8 +15,7 @@ use lib.Bits.{bit_and, bit_or, bit_xor, and_high, and_mask, and_le_l, and_le_r, 
 use Rattle.broadword.specs.Fields.{digit, word, flag}
 use Rattle.broadword.proofs.Fields.{digit_lt, digit_is, word-digits, word_mono, word_same, word_top, word-sub, word_and, word_or, word_xor, word_shr_exact}
 use Rattle.broadword.proofs.Table.{each_eq}
-use Rattle.broadword.proofs.uleq_step_9.Statement.{statement}
-use Rattle.broadword.proofs.uleq_step_9.Tie as tie
+use Rattle.broadword.proofs.uleq_step_9.Goals as goal
 
 -- ---- one field
 
@@ -209,11 +208,8 @@ module _ (x y : ℕ) (hx : x < 2 ^ 63) (hy : y < 2 ^ 63) where
       ∙ word_top 9 (λ i. sel7 i (f i) 0) 7 refl
       ∙ word_same 9 (λ i. sel7 i (f i) 0) f 7 (λ i l. sel7_low i (f i) 0 l)
 
-sub_result : tie.Need-overflow-sub-result
-sub_result c = no_borrow c.args.x c.args.y c.requires.0 c.requires.1
+pub overflow_sub-result : goal.overflow_sub-result
+overflow_sub-result c = no_borrow c.args.x c.args.y c.requires.0 c.requires.1
 
-returns : tie.Need-returns
+pub returns : goal.returns
 returns c = law c.args.x c.args.y c.requires.0 c.requires.1
-
-pub uleq_step_9_spec : {M : Type 1} → statement M
-uleq_step_9_spec = tie.close (tie.spec sub_result returns)

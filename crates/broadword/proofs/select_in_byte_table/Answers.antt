@@ -10,8 +10,7 @@ use lib.ListN.{get_or}
 use Rattle.broadword.specs.Bits.{bit, count}
 use Rattle.broadword.specs.Places.{select, or_else, SelectInByte}
 use Rattle.broadword.proofs.Table.{at}
-use Rattle.broadword.proofs.select_in_byte_table.Statement.{statement}
-use Rattle.broadword.proofs.select_in_byte_table.Tie as tie
+use Rattle.broadword.proofs.select_in_byte_table.Goals as goal
 
 entries : List ℕ
 entries =
@@ -93,9 +92,6 @@ ruled b r hb hr =
     let high : (b + 256 * r) / 256 ≡ r = omega arith in
     rule (b + 256 * r) (omega arith) ∙ ap₂ (λ (p q : ℕ). or_else (select (bit p) 8 q) 8) low high
 
-returns : tie.Need-returns
+pub returns : goal.returns
 unfolding entries
 returns c = ruled
-
-pub select_in_byte_table_spec : {M : Type 1} → statement M
-select_in_byte_table_spec = tie.close (tie.spec returns)

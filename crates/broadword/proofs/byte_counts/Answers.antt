@@ -1,7 +1,6 @@
 -- `broadword::byte_counts` meets its contract: no step carries from a byte to another (`Fields.antt`), so each is a step on bytes,
 -- and antt computes the three steps at each of the 256 bytes.
 -- Assumes nothing.
-use borrow.Author.Rules.{rules}
 use mathlib.Core.Path.{◌≡◌, refl, sym, ap, ap₂, ◌∙◌}
 use Prim.Native.Nat.{ℕ, suc, ◌+◌, ◌-◌, ◌*◌, ◌/◌, ◌%◌, ◌^◌, ◌≤◌, ◌<◌}
 use native.Mathlib.Nat.{div-eq_of_lt}
@@ -12,8 +11,7 @@ use Rattle.broadword.specs.Bits.{bit, count, ones}
 use Rattle.broadword.specs.Fields.{digit, word}
 use Rattle.broadword.proofs.Fields.{bytes, digit_lt, digit_is, word_same, word_add, word-sub, word_and, word_shr_exact, word_shr}
 use Rattle.broadword.proofs.Table.{each_eq, each_le}
-use Rattle.broadword.proofs.byte_counts.Statement.{statement}
-use Rattle.broadword.proofs.byte_counts.Tie as tie
+use Rattle.broadword.proofs.byte_counts.Goals as goal
 
 -- the steps at a byte
 abbrev step_a : ℕ → ℕ
@@ -116,30 +114,14 @@ module _ (x : ℕ) (h : x < 2 ^ 64) where
       drop : (s t : ℕ) → (s + (s / 2 ^ 4 + t * 2 ^ 4)) % 2 ^ 4 ≡ (s + s / 16) % 16
       drop s t = omega arith
 
-mul_a : tie.Need-overflow-mul-a
-mul_a c = search rules
+pub overflow_sub-a : goal.overflow_sub-a
+overflow_sub-a c = omega (arith, and_le_l c.args.x 0xaaaa_aaaa_aaaa_aaaa)
 
-sub_a : tie.Need-overflow-sub-a
-sub_a c = omega (arith, and_le_l c.args.x 0xaaaa_aaaa_aaaa_aaaa)
+pub overflow_add-b : goal.overflow_add-b
+overflow_add-b c = omega (arith, and_le_r (val_a c.args.x) 0x3333_3333_3333_3333, and_le_r (val_a c.args.x / 2 ^ 2) 0x3333_3333_3333_3333)
 
-mul_b : tie.Need-overflow-mul-b
-mul_b c = search rules
+pub overflow_add-result : goal.overflow_add-result
+overflow_add-result c = omega (arith, and_le_r (val_a c.args.x) 0x3333_3333_3333_3333, and_le_r (val_a c.args.x / 2 ^ 2) 0x3333_3333_3333_3333)
 
-mul_b_2 : tie.Need-overflow-mul-b-2
-mul_b_2 c = search rules
-
-add_b : tie.Need-overflow-add-b
-add_b c = omega (arith, and_le_r (val_a c.args.x) 0x3333_3333_3333_3333, and_le_r (val_a c.args.x / 2 ^ 2) 0x3333_3333_3333_3333)
-
-add_result : tie.Need-overflow-add-result
-add_result c = omega (arith, and_le_r (val_a c.args.x) 0x3333_3333_3333_3333, and_le_r (val_a c.args.x / 2 ^ 2) 0x3333_3333_3333_3333)
-
-mul_result : tie.Need-overflow-mul-result
-mul_result c = search rules
-
-returns : tie.Need-returns
+pub returns : goal.returns
 returns c = is_c c.args.x c.ranges.x.fits
-
-pub byte_counts_spec : {M : Type 1} → statement M
-byte_counts_spec =
-    tie.close (tie.spec mul_a sub_a mul_b mul_b_2 add_b add_result mul_result returns)

@@ -5,8 +5,7 @@ use Prim.Native.Nat.{ℕ, ◌*◌, ◌/◌, ◌%◌, ◌^◌}
 use lib.ListN.{get_or}
 use Rattle.broadword.specs.Places.{Debruijn64}
 use Rattle.broadword.proofs.Table.{each_eq}
-use Rattle.broadword.proofs.debruijn64_table.Statement.{statement}
-use Rattle.broadword.proofs.debruijn64_table.Tie as tie
+use Rattle.broadword.proofs.debruijn64_table.Goals as goal
 
 entries : List ℕ
 entries =
@@ -16,9 +15,6 @@ ruled : Debruijn64 entries
 unfolding entries
 ruled k h = each_eq (λ i. get_or entries ((0x07ED_D5E5_9A4E_28C2 * 2 ^ i) % 2 ^ 64 / 2 ^ 58) 0) (λ i. i) 64 tt k h
 
-returns : tie.Need-returns
+pub returns : goal.returns
 unfolding entries
 returns c = ruled
-
-pub debruijn64-table_spec : {M : Type 1} → statement M
-debruijn64-table_spec = tie.close (tie.spec returns)

@@ -1,6 +1,5 @@
 -- `broadword::lsb_by` meets its contract: `x & -x` is the power of two at the lowest one of x (`Lowest.antt`).
 -- Assumes nothing.
-use borrow.Author.Rules.{rules}
 use mathlib.Core.Path.{◌≡◌, sym, ap, ◌∙◌}
 use Prim.Native.Nat.{ℕ, ◌+◌, ◌-◌, ◌*◌, ◌%◌, ◌^◌, ◌<◌, zero, suc}
 use native.Mathlib.Nat.{le_dest, le_of_lt, not-suc-le-zero, pos_of_ne-zero}
@@ -12,8 +11,7 @@ use Rattle.broadword.specs.Places.{select}
 use Rattle.broadword.specs.declared.Found.TheVariants.{At}
 use Rattle.broadword.proofs.Find.{select_at}
 use Rattle.broadword.proofs.Lowest.{odd_times, short, lowest_one, bit-one, none_below, zero_none}
-use Rattle.broadword.proofs.lsb_by.Statement.{statement}
-use Rattle.broadword.proofs.lsb_by.Tie as tie
+use Rattle.broadword.proofs.lsb_by.Goals as goal
 
 -- the product with the largest word wraps to the negative. M is a variable here: `omega` stops at numbers of more than 38 digits
 negative_at : (M n d : ℕ) → suc n + d ≡ M → ((M - 1) * suc n) % M ≡ M - suc n
@@ -44,20 +42,14 @@ low_place x p z h e =
     let neg : p ≡ 2 ^ 64 - x = e ∙ negative x pos h in
     (t, l, ap (bit_and x) neg ∙ lowest_one x t o.1 o.2 d.0 (places-left t d.0 d.1) h, select_at (bit x) 64 0 t l (bit-one x t o.1 o.2) (none_below x t o.1 o.2))
 
-wrapping_mul_requires : tie.Need-wrapping-mul-requires
-wrapping_mul_requires c κs = search rules
+at_mul : (c : goal.After-wrapping_mul) → (t : ℕ) × (t < 64) × (bit_and c.args.x c.wrapping_mul.result ≡ 2 ^ t) × (select (bit c.args.x) 64 0 ≡ At t)
+at_mul c = low_place c.args.x c.wrapping_mul.result c.if-x-eq0.false c.ranges.x.fits c.wrapping_mul.ensures
 
-at_mul : (c : tie.After-wrapping-mul) → (t : ℕ) × (t < 64) × (bit_and c.before.before.args.x c.wrapping-mul.result ≡ 2 ^ t) × (select (bit c.before.before.args.x) 64 0 ≡ At t)
-at_mul c = low_place c.before.before.args.x c.wrapping-mul.result c.before.if1.false c.before.before.ranges.x.fits c.wrapping-mul.ensures
+pub bit_position-requires : goal.bit_position-requires
+bit_position-requires c = let s = at_mul c in (c.requires, (s.0, s.1, s.2))
 
-bit_position_requires : tie.Need-bit-position-requires
-bit_position_requires c κs = let s = at_mul c in (c.before.before.requires, (s.0, s.1, s.2))
+pub returns-else-x-eq0 : goal.returns-else-x-eq0
+returns-else-x-eq0 c = let s = at_mul c.before in ap At (c.bit_position.ensures s.0 s.1 s.2) ∙ sym s.3
 
-returns_2 : tie.Need-returns-2
-returns_2 c = let s = at_mul c.before in ap At (c.bit-position.ensures s.0 s.1 s.2) ∙ sym s.3
-
-returns : tie.Need-returns
-returns c = sym (zero_none c.before.args.x c.if1.true)
-
-pub lsb_by_spec : {M : Type 1} → statement M
-lsb_by_spec = tie.close (tie.spec wrapping_mul_requires bit_position_requires returns returns_2)
+pub returns-then-x-eq0 : goal.returns-then-x-eq0
+returns-then-x-eq0 c = sym (zero_none c.args.x c.if-x-eq0.true)

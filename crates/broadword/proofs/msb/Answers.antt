@@ -11,11 +11,10 @@ use Rattle.broadword.specs.Places.{last}
 use Rattle.broadword.specs.declared.Found.TheVariants.{At}
 use Rattle.broadword.proofs.Count.{bit-above}
 use Rattle.broadword.proofs.Find.{last_at, last_none}
-use Rattle.broadword.proofs.msb.Statement.{statement}
-use Rattle.broadword.proofs.msb.Tie as tie
+use Rattle.broadword.proofs.msb.Goals as goal
 
-returns : tie.Need-returns
-returns c = sym (ap (λ (x : ℕ). last (bit x) 64) c.if1.true ∙ last_none (bit 0) 64 (λ i _. bit-above 0 i (pow_pos i)))
+pub returns-then-x-eq0 : goal.returns-then-x-eq0
+returns-then-x-eq0 c = sym (ap (λ (x : ℕ). last (bit x) 64) c.if-x-eq0.true ∙ last_none (bit 0) 64 (λ i _. bit-above 0 i (pow_pos i)))
 
 -- the place that the leading zeros leave is that of the last one
 below-zeros : (x place : ℕ) → 0 < x → x < 2 ^ 64 → count_leading_zeros 64 x + suc place ≡ 64 → last (bit x) 64 ≡ At place
@@ -29,14 +28,11 @@ below-zeros x place z h e =
     let one : x / 2 ^ place ≡ 1 = div-eq_of_lt-le (2 ^ place) {m = x} (omega arith) (omega arith) in
     last_at (bit x) 64 place (omega arith) (omega arith) (λ i a _. bit-above x i (lt_of_lt_of_le hi (pow_mono a)))
 
-sub_place : tie.Need-overflow-sub-place
-sub_place c = let t = leading_top 64 c.before.args.x (pos_of_ne-zero c.if1.false) c.before.ranges.x.fits in omega (arith, t.1)
+pub overflow_sub-place : goal.overflow_sub-place
+overflow_sub-place c = let t = leading_top 64 c.args.x (pos_of_ne-zero c.if-x-eq0.false) c.ranges.x.fits in omega (arith, t.1)
 
-cast_t5 : tie.Need-overflow-cast-t5
-cast_t5 c = omega (arith, sub_place c)
+pub overflow_cast-result : goal.overflow_cast-result
+overflow_cast-result c = omega (arith, overflow_sub-place c)
 
-returns_2 : tie.Need-returns-2
-returns_2 c = sym (below-zeros c.before.args.x _ (pos_of_ne-zero c.if1.false) c.before.ranges.x.fits (omega (arith, sub_place c)))
-
-pub msb_spec : {M : Type 1} → statement M
-msb_spec = tie.close (tie.spec returns sub_place cast_t5 returns_2)
+pub returns : goal.returns
+returns c = sym (below-zeros c.args.x _ (pos_of_ne-zero c.if-x-eq0.false) c.ranges.x.fits (omega (arith, overflow_sub-place c)))

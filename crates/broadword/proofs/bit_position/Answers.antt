@@ -1,0 +1,13 @@
+-- `broadword::bit_position` meets its contract: at the top six bits of the product the lent table has its rule.
+-- Assumes nothing.
+use mathlib.Core.Path.{ap, ◌∙◌}
+use Prim.Native.Nat.{ℕ, ◌*◌, ◌/◌, ◌%◌, ◌^◌}
+use lib.ListN.{get_or}
+use Rattle.broadword.proofs.bit_position.Goals as goal
+
+pub returns : goal.returns
+returns c k h e =
+    let s = c.before.before.before in
+    c.wide.ensures
+    ∙ ap (λ (p : ℕ). get_or s.args.table.now (p / 2 ^ 58) 0) (c.wrapping_mul.ensures ∙ ap (λ (x : ℕ). (0x07ED_D5E5_9A4E_28C2 * x) % 2 ^ 64) e)
+    ∙ s.requires.0 k h
