@@ -7,28 +7,28 @@ pub mod unary;
 use errors::Refusal;
 
 // Whether words were altered.
-#[derive(Drop)]
+#[derive(Clone, Copy)]
 pub enum Altered {
     Done,
     Refused(Refusal),
 }
 
 // The length after a push.
-#[derive(Drop)]
+#[derive(Clone, Copy)]
 pub enum Pushed {
     Length(usize),
     Refused(Refusal),
 }
 
 // Some bits, as a number.
-#[derive(Drop)]
+#[derive(Clone, Copy)]
 pub enum Word {
     Value(u64),
     Nothing,
     Refused(Refusal),
 }
 
-#[derive(Drop)]
+#[derive(Clone, Copy)]
 pub enum Bit {
     Is(bool),
     Nothing,
@@ -36,7 +36,7 @@ pub enum Bit {
 }
 
 // How many ones.
-#[derive(Drop)]
+#[derive(Clone, Copy)]
 pub enum Count {
     Ones(usize),
     Nothing,
@@ -44,7 +44,7 @@ pub enum Count {
 }
 
 // Where a bit stands.
-#[derive(Drop)]
+#[derive(Clone, Copy)]
 pub enum Place {
     At(usize),
     Nothing,

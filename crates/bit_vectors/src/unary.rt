@@ -15,7 +15,7 @@ use bit_words::{WORD_LEN, find_from, is_invalid, words_for};
 use broadword::{Found, debruijn64_table, lsb_by, select_in_byte_table};
 use errors::Refusal;
 
-#[derive(Drop)]
+#[derive(Clone, Copy)]
 pub struct Unary {
     // The start, then the last place given; the length once a none was given.
     pub position: usize,
@@ -25,13 +25,13 @@ pub struct Unary {
     pub buf: u64,
 }
 
-#[derive(Drop)]
+#[derive(Clone, Copy)]
 pub enum Started {
     Walk(Unary),
     Refused(Refusal),
 }
 
-#[derive(Drop)]
+#[derive(Clone, Copy)]
 pub struct Stepped {
     pub place: Place,
     pub walk: Unary,
@@ -102,7 +102,7 @@ pub fn skip_zeros(words: &[u64], first: usize, used: usize) -> usize
 }
 
 // A word, and of it the bits that are still ahead of a walk.
-#[derive(Drop)]
+#[derive(Clone, Copy)]
 struct Left {
     at: usize,
     rest: u64,

@@ -105,7 +105,7 @@ pub fn rank_words(words: &[u64], pos: usize) -> usize
 }
 
 // A word, and how many ones of it stand before the one that was looked for.
-#[derive(Drop)]
+#[derive(Clone, Copy)]
 pub struct Spot {
     pub word: usize,
     pub left: usize,

@@ -16,7 +16,7 @@ mod tables;
 use tables::{DEBRUIJN64_MAPPING, SELECT_IN_BYTE};
 
 // A place, or that there is none.
-#[derive(Drop)]
+#[derive(Clone, Copy)]
 pub enum Found {
     At(usize),
     Nothing,

@@ -2,7 +2,7 @@
 use burner_questions::send::first;
 use decimal::Parsed;
 
-#[derive(Drop)]
+#[derive(Clone, Copy)]
 pub enum Got {
     // So many bytes stand at the front of the buffer.
     Bytes(usize),

@@ -13,7 +13,7 @@ use record_file::{opening, sentences};
 use word_files::{Saved, say};
 
 // What the tests of the settings find: a status to stop with.
-#[derive(Drop)]
+#[derive(Clone, Copy)]
 enum Tested {
     Passed,
     Stopped(i32),

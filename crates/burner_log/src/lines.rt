@@ -5,7 +5,7 @@ use elias_fano::builder::{Builder, Pushed, push};
 use errors::Refusal;
 use word_files::{Saved, say};
 
-#[derive(Drop)]
+#[derive(Clone, Copy)]
 pub struct State {
     // The record, but for its words.
     pub record: Builder,

@@ -5,7 +5,7 @@ use console_text::line::Arguments;
 use console_text::output::Reply;
 use console_text::{line, output};
 
-#[derive(Drop)]
+#[derive(Clone, Copy)]
 pub enum Asked {
     // The exit status: 1 for `refused N`.
     Status(i32),

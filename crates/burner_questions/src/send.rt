@@ -4,7 +4,7 @@ ghost use Rattle.std.specs.Prelude.{◌≡◌, take};
 use word_files::say;
 
 // How many bytes have gathered, and whether a write has failed.
-#[derive(Drop)]
+#[derive(Clone, Copy)]
 pub struct Page {
     pub at: usize,
     pub failed: bool,

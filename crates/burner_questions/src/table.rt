@@ -8,7 +8,7 @@ use elias_fano::image::Number;
 use winters::compare;
 
 // What is told of a span. `starts` is at most 16,777,216.
-#[derive(Drop)]
+#[derive(Clone, Copy)]
 struct Span {
     pub from: u64,
     pub to: u64,

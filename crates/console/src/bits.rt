@@ -57,7 +57,7 @@ pub fn ask(name: &[u8], r: Arguments, words: &[u64], len: usize) -> Reply {
 }
 
 // The answer, and the length from then on.
-#[derive(Drop)]
+#[derive(Clone, Copy)]
 pub struct Told {
     pub reply: Reply,
     pub len: usize,

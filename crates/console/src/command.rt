@@ -11,7 +11,7 @@ use console_text::output::Reply;
 use console_text::{line, output};
 
 // What the console holds besides its arrays.
-#[derive(Drop)]
+#[derive(Clone, Copy)]
 pub struct State {
     // How many bytes of a line have gathered, and whether there were more than fit.
     pub count: usize,

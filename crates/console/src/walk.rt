@@ -9,7 +9,7 @@ use decimal::Parsed;
 
 // A step of the line: its kind, its number, and where it ends. The kinds are `skip1` 0, `skip0` 1, `next` 2, `position` 3,
 // and 4 for what is no step.
-#[derive(Drop)]
+#[derive(Clone, Copy)]
 struct Step {
     pub kind: usize,
     pub k: u64,

@@ -14,7 +14,7 @@ use console_text::output::Reply;
 use elias_fano::builder::Builder;
 
 // What is held besides the buffer's words: how many of them are lent, how many of these are the image, and the builder.
-#[derive(Drop)]
+#[derive(Clone, Copy)]
 pub struct Record {
     pub lent: usize,
     pub image: usize,
@@ -22,7 +22,7 @@ pub struct Record {
 }
 
 // The answer, and what is held from then on.
-#[derive(Drop)]
+#[derive(Clone, Copy)]
 pub struct Told {
     pub reply: Reply,
     pub record: Record,

@@ -16,14 +16,14 @@ use console_text::output::Reply;
 use sarray::queries;
 
 // What is held besides the image.
-#[derive(Drop)]
+#[derive(Clone, Copy)]
 pub struct Sparse {
     pub len: usize,
     pub rank: bool,
 }
 
 // The answer, and what is held from then on.
-#[derive(Drop)]
+#[derive(Clone, Copy)]
 pub struct SparseTold {
     pub reply: Reply,
     pub record: Record,

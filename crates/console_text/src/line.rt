@@ -7,7 +7,7 @@ ghost use Rattle.console_text.specs.Line.{up_to, words_in, same_text, place_amon
 use decimal::Parsed;
 
 // The words after a command as numbers: whether all of them are, how many, and the first four.
-#[derive(Drop)]
+#[derive(Clone, Copy)]
 pub struct Arguments {
     pub fit: bool,
     pub n: usize,

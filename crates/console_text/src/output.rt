@@ -8,7 +8,7 @@ use decimal::Written;
 use errors::Refusal;
 
 // The answer to a command, but for those that write a list.
-#[derive(Drop)]
+#[derive(Clone, Copy)]
 pub enum Reply {
     Value(u64),
     // A plain none.

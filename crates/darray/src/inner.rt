@@ -31,7 +31,7 @@ use errors::Refusal;
 const MAX_LEN: usize = 1 << 63;
 
 // How many positions are indexed, and how many entries, distances and overflow positions the index has.
-#[derive(Drop)]
+#[derive(Clone, Copy)]
 pub struct Sizes {
     pub positions: usize,
     pub entries: usize,
@@ -40,21 +40,21 @@ pub struct Sizes {
 }
 
 // The sizes, or why there are none.
-#[derive(Drop)]
+#[derive(Clone, Copy)]
 pub enum Measured {
     Sizes(Sizes),
     Refused(Refusal),
 }
 
 // How many words were written.
-#[derive(Drop)]
+#[derive(Clone, Copy)]
 pub enum Built {
     Words(usize),
     Refused(Refusal),
 }
 
 // Whether an index is that of the bits.
-#[derive(Drop)]
+#[derive(Clone, Copy)]
 pub enum Validated {
     Is(bool),
     Refused(Refusal),

@@ -14,7 +14,7 @@ use darray_positions::scan::{
 };
 
 // Positions, and how many of them are pending.
-#[derive(Drop)]
+#[derive(Clone, Copy)]
 pub struct Pending {
     pub positions: [u64; 1024],
     pub count: usize,
@@ -327,7 +327,7 @@ fn block_matches(
 }
 
 // Whether a block's words are those of the index.
-#[derive(Drop)]
+#[derive(Clone, Copy)]
 pub enum Compared {
     // They are, and so many of its positions go to the overflow.
     Same(usize),

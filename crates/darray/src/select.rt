@@ -12,7 +12,7 @@ use broadword::Found;
 use darray_positions::scan::{BLOCK_LEN, SUBBLOCK_LEN};
 
 // A block's entry: its first position, or where its overflow positions begin.
-#[derive(Drop)]
+#[derive(Clone, Copy)]
 pub enum Entry {
     First(usize),
     Overflow(usize),

@@ -22,21 +22,21 @@ const MAX_IN_BLOCK_DISTANCE: u64 = 1 << 16;
 const FAR: usize = 1024;
 
 // A word, and how many positions stand before it.
-#[derive(Drop)]
+#[derive(Clone, Copy)]
 pub struct Cursor {
     pub word: usize,
     pub before: usize,
 }
 
 // A position, and a cursor at its word. The contracts promise of a cursor that it has not passed the position: where it stands decides only about time.
-#[derive(Drop)]
+#[derive(Clone, Copy)]
 pub struct Hit {
     pub at: u64,
     pub cursor: Cursor,
 }
 
 // The ends of a block, and a cursor at the word of the last.
-#[derive(Drop)]
+#[derive(Clone, Copy)]
 pub struct Span {
     pub first: u64,
     pub last: u64,
@@ -45,7 +45,7 @@ pub struct Span {
 
 // How many blocks are full, how many of their positions go to the overflow, a cursor that has not passed the next block, and how many positions
 // stand in the whole words.
-#[derive(Drop)]
+#[derive(Clone, Copy)]
 pub struct Full {
     pub blocks: usize,
     pub overflow: usize,

@@ -4,7 +4,7 @@
 ghost use Rattle.std.specs.Prelude.{true, ◌++◌, ◌≡◌, ◌+◌, ◌≤◌, length, take, drop};
 ghost use Rattle.decimal.specs.Decimal.{is_digit, all_digits, value_from, sized, parse_of, digits, num_digits, left, write_of};
 
-#[derive(Drop)]
+#[derive(Clone, Copy)]
 pub enum Parsed {
     Value(u64),
     // No byte at all, or one that is no digit.
@@ -13,7 +13,7 @@ pub enum Parsed {
     TooLarge,
 }
 
-#[derive(Drop)]
+#[derive(Clone, Copy)]
 pub enum Written {
     // The place after the last digit.
     End(usize),

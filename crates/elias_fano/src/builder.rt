@@ -17,7 +17,7 @@ use elias_fano_words::sizes::{MAX_VALS, Sizes, limit_of, of_record};
 use errors::Refusal;
 
 // How far a record is written. The words are the caller's.
-#[derive(Drop)]
+#[derive(Clone, Copy)]
 pub struct Builder {
     pub universe: u64,
     pub num_vals: u64,
@@ -26,21 +26,21 @@ pub struct Builder {
 }
 
 // The builder that a call hands back.
-#[derive(Drop)]
+#[derive(Clone, Copy)]
 pub enum Pushed {
     Accepted(Builder),
     Refused(Refusal),
 }
 
 // How many words the image has.
-#[derive(Drop)]
+#[derive(Clone, Copy)]
 pub enum Built {
     Words(usize),
     Refused(Refusal),
 }
 
 // What the tests of a call find: the sizes of the record, or a refusal.
-#[derive(Drop)]
+#[derive(Clone, Copy)]
 enum Tested {
     Passed(Sizes),
     Refused(Refusal),

@@ -17,7 +17,7 @@ use errors::Refusal;
 
 // The header's numbers, and where the parts of an image stand: the high words from the word 6 on, the low words, the index over the ones and, with
 // `rank`, that over the zeros.
-#[derive(Drop)]
+#[derive(Clone, Copy)]
 pub struct Parts {
     pub universe: u64,
     pub num_vals: u64,
@@ -32,14 +32,14 @@ pub struct Parts {
 }
 
 // The parts of an accepted image.
-#[derive(Drop)]
+#[derive(Clone, Copy)]
 pub enum Opened {
     Image(Parts),
     Refused(Refusal),
 }
 
 // How many, or the number of a value.
-#[derive(Drop)]
+#[derive(Clone, Copy)]
 pub enum Number {
     Is(usize),
     Nothing,
@@ -47,7 +47,7 @@ pub enum Number {
 }
 
 // A value of the sequence.
-#[derive(Drop)]
+#[derive(Clone, Copy)]
 pub enum Value {
     Is(u64),
     Nothing,
@@ -55,7 +55,7 @@ pub enum Value {
 }
 
 // The parts that a header gives, inside the crate.
-#[derive(Drop)]
+#[derive(Clone, Copy)]
 enum Header {
     Parts(Parts),
     Wrong,

@@ -8,14 +8,14 @@ use elias_fano::builder::{Builder, Pushed};
 use errors::Refusal;
 
 // What a push answers.
-#[derive(Drop)]
+#[derive(Clone, Copy)]
 pub enum Filed {
     Done,
     Refused(Refusal),
 }
 
 // What a push by value leaves.
-#[derive(Drop)]
+#[derive(Clone, Copy)]
 pub struct AfterPush {
     pub builder: Builder,
     pub answer: Filed,

@@ -13,26 +13,26 @@ use elias_fano_walk::walk::{Walk, begin};
 use errors::Refusal;
 
 // A place in an image.
-#[derive(Drop)]
+#[derive(Clone, Copy)]
 pub struct IterPlace {
     pub parts: Parts,
     pub walk: Walk,
 }
 
-#[derive(Drop)]
+#[derive(Clone, Copy)]
 pub enum IterStart {
     IterPlace(IterPlace),
     Refused(Refusal),
 }
 
 // What a step by value leaves.
-#[derive(Drop)]
+#[derive(Clone, Copy)]
 pub struct Moved {
     pub value: Value,
     pub cursor: IterPlace,
 }
 
-#[derive(Drop)]
+#[derive(Clone, Copy)]
 pub struct Iter<'a> {
     pub image: &'a [u64],
     pub cursor: IterPlace,

@@ -23,21 +23,21 @@ use elias_fano_words::sizes::{MAX_VALS, Sizes, image_len, limit_of, of_record};
 use errors::Refusal;
 
 // What nothing stands against: how many ones there are, and the sizes of their record.
-#[derive(Drop)]
+#[derive(Clone, Copy)]
 struct Job {
     ones: usize,
     sizes: Sizes,
 }
 
 // What the tests find.
-#[derive(Drop)]
+#[derive(Clone, Copy)]
 enum TestedBits {
     Passed(Job),
     Refused(Refusal),
 }
 
 // The place of a one, and the walk over those after it.
-#[derive(Drop)]
+#[derive(Clone, Copy)]
 struct One {
     place: usize,
     rest: Unary,

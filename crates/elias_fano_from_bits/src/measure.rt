@@ -15,14 +15,14 @@ use broadword::popcount;
 use darray_positions::scan::{BLOCK_LEN, block_size, spilled, tail_positions};
 
 // A place of the source, and how many ones stand before it.
-#[derive(Drop)]
+#[derive(Clone, Copy)]
 pub struct Mark {
     pub place: usize,
     pub ones: usize,
 }
 
 // A position of the high bits, and the mark in the source that it was found by.
-#[derive(Drop)]
+#[derive(Clone, Copy)]
 pub struct HighPlace {
     pub at: u64,
     pub mark: Mark,

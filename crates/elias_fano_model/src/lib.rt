@@ -11,7 +11,7 @@ use elias_fano::builder::{Builder, Built, Pushed, build, new, push};
 use errors::{Refusal, number};
 
 // The answer of a call.
-#[derive(Drop)]
+#[derive(Clone, Copy)]
 pub enum Reply {
     Done,
     Value(usize),
@@ -19,21 +19,21 @@ pub enum Reply {
 }
 
 // What a call leaves of the builder, and its answer.
-#[derive(Drop)]
+#[derive(Clone, Copy)]
 pub struct Turn {
     pub builder: Builder,
     pub reply: Reply,
 }
 
 // The last builder, and how many calls were answered, the start among them.
-#[derive(Drop)]
+#[derive(Clone, Copy)]
 pub struct Ended {
     pub builder: Builder,
     pub count: usize,
 }
 
 // The end of a run, or why it did not begin.
-#[derive(Drop)]
+#[derive(Clone, Copy)]
 pub enum Ran {
     Done(Ended),
     Refused(Refusal),

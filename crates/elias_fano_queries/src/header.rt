@@ -8,7 +8,7 @@ use elias_fano::image::{Number, Opened, Value, open};
 use errors::Refusal;
 
 // Whether something holds of an image.
-#[derive(Drop)]
+#[derive(Clone, Copy)]
 pub enum Truth {
     Is(bool),
     Refused(Refusal),

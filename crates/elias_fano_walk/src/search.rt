@@ -22,7 +22,7 @@ use errors::Refusal;
 const LINEAR_SCAN_THRESHOLD: usize = 64;
 
 // Inside the crate: what is to be scanned, from the number of a value, whose one stands at the place, up to a later number.
-#[derive(Drop)]
+#[derive(Clone, Copy)]
 struct Section {
     number: usize,
     place: usize,

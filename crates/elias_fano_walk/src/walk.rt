@@ -14,7 +14,7 @@ use broadword::{Found, lsb_by};
 use elias_fano::image::{Parts, Value, one_at};
 use elias_fano_words::check::bits_at;
 
-#[derive(Drop)]
+#[derive(Clone, Copy)]
 pub struct Walk {
     // Of the next value.
     pub number: usize,
@@ -26,27 +26,27 @@ pub struct Walk {
     pub lows: u64,
 }
 
-#[derive(Drop)]
+#[derive(Clone, Copy)]
 pub struct Taken {
     pub value: u64,
     pub walk: Walk,
 }
 
-#[derive(Drop)]
+#[derive(Clone, Copy)]
 pub struct ValueStep {
     pub value: Value,
     pub walk: Walk,
 }
 
 // Inside the crate: a high word with a one ahead.
-#[derive(Drop)]
+#[derive(Clone, Copy)]
 struct Ahead {
     base: usize,
     rest: u64,
 }
 
 // Inside the crate: the place of a one, and the ones after it.
-#[derive(Drop)]
+#[derive(Clone, Copy)]
 struct One {
     place: usize,
     base: usize,

@@ -15,7 +15,7 @@ use bit_words::{WORD_LEN, last_used, rank_words, words_for};
 use broadword::{Found, msb, popcount};
 
 // The last time, 0 where there is none, or that the words do not hold such times. It is inner: no call of the record answers so.
-#[derive(Drop)]
+#[derive(Clone, Copy)]
 pub enum Checked {
     Last(u64),
     Wrong,

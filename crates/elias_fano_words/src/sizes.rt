@@ -13,7 +13,7 @@ pub const MAX_VALS: u64 = 16_777_216;
 const OVERFLOW_PLACES: usize = 64;
 
 // The sizes that the calls share, and the word at which the low bits begin.
-#[derive(Drop)]
+#[derive(Clone, Copy)]
 pub struct Sizes {
     pub low_len: usize,
     pub high_len: usize,

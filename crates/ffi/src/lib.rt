@@ -27,7 +27,7 @@ use errors::number;
 
 // How far a record is written.
 #[repr(C)]
-#[derive(Drop)]
+#[derive(Clone, Copy)]
 pub struct EfBuilder {
     pub universe: u64,
     pub num_vals: u64,
@@ -37,7 +37,7 @@ pub struct EfBuilder {
 
 // The refusal's number, 0 where the call is accepted, and the builder to go on with.
 #[repr(C)]
-#[derive(Drop)]
+#[derive(Clone, Copy)]
 pub struct EfPushed {
     pub refusal: u64,
     pub builder: EfBuilder,
@@ -45,7 +45,7 @@ pub struct EfPushed {
 
 // What an answer is, and the value or the refusal's number.
 #[repr(C)]
-#[derive(Drop)]
+#[derive(Clone, Copy)]
 pub struct EfAnswer {
     pub kind: u64,
     pub value: u64,

@@ -18,7 +18,7 @@ use elias_fano_walk::search::binsearch_opened;
 use errors::number;
 
 // Which question is asked of each argument.
-#[derive(Drop)]
+#[derive(Clone, Copy)]
 enum Kind {
     Select,
     Delta,

@@ -21,7 +21,7 @@ use sarray::queries::{
 use sarray::vector::{SArray, Vector, open};
 
 // Which question is asked of each argument.
-#[derive(Drop)]
+#[derive(Clone, Copy)]
 enum SparseKind {
     Access,
     Rank1,

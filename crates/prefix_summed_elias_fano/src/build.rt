@@ -22,21 +22,21 @@ use errors::Refusal;
 const LARGEST: u64 = u64::MAX - 1;
 
 // The sum of the items, if 1 more is still a u64.
-#[derive(Drop)]
+#[derive(Clone, Copy)]
 enum Summed {
     Is(u64),
     TooLarge,
 }
 
 // What nothing stands against: the sum, and the sizes of the record.
-#[derive(Drop)]
+#[derive(Clone, Copy)]
 struct Job {
     sum: u64,
     sizes: Sizes,
 }
 
 // What the tests find.
-#[derive(Drop)]
+#[derive(Clone, Copy)]
 enum TestedSlice {
     Passed(Job),
     Refused(Refusal),

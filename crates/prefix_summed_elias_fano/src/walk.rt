@@ -17,7 +17,7 @@ use elias_fano_walk::read::how_many;
 use elias_fano_walk::walk::{Walk, begin, ended, take};
 use errors::Refusal;
 
-#[derive(Drop)]
+#[derive(Clone, Copy)]
 pub struct ItemWalk {
     // The value before the next one, 0 at first: the sum of the items before.
     pub before: u64,
@@ -26,25 +26,25 @@ pub struct ItemWalk {
 }
 
 // The parts of an image, and a walk over it.
-#[derive(Drop)]
+#[derive(Clone, Copy)]
 pub struct ItemPlace {
     pub parts: Parts,
     pub walk: ItemWalk,
 }
 
-#[derive(Drop)]
+#[derive(Clone, Copy)]
 pub enum ItemsStart {
     ItemPlace(ItemPlace),
     Refused(Refusal),
 }
 
-#[derive(Drop)]
+#[derive(Clone, Copy)]
 pub struct ItemTaken {
     pub item: u64,
     pub rest: ItemWalk,
 }
 
-#[derive(Drop)]
+#[derive(Clone, Copy)]
 pub struct ItemStep {
     pub item: Value,
     pub rest: ItemWalk,

@@ -15,7 +15,7 @@ pub mod opening;
 pub mod sentences;
 pub mod sums;
 
-#[derive(Drop)]
+#[derive(Clone, Copy)]
 pub enum Kept {
     // The words of its start stand at the front of those that are lent.
     Held(Builder),
@@ -30,7 +30,7 @@ pub enum Kept {
 }
 
 // What the tests of the settings find: how many words the start has.
-#[derive(Drop)]
+#[derive(Clone, Copy)]
 enum Start {
     Words(usize),
     Refused,

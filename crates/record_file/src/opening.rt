@@ -3,7 +3,7 @@ use crate::{Kept, restore, sentences};
 use elias_fano::builder::{Builder, Pushed, new};
 use word_files::{names, say};
 
-#[derive(Drop)]
+#[derive(Clone, Copy)]
 pub enum Opened {
     Record(Builder),
     // The command ends with this status.
@@ -11,7 +11,7 @@ pub enum Opened {
 }
 
 // The settings that a record must have, if not any will do.
-#[derive(Drop)]
+#[derive(Clone, Copy)]
 struct Wanted {
     any: bool,
     universe: u64,
@@ -19,7 +19,7 @@ struct Wanted {
 }
 
 // What a file holds.
-#[derive(Drop)]
+#[derive(Clone, Copy)]
 enum Seen {
     Held(Builder),
     Missing,
@@ -31,7 +31,7 @@ enum Seen {
 }
 
 // What became of a file that is renamed.
-#[derive(Drop)]
+#[derive(Clone, Copy)]
 enum Aside {
     Done,
     // The name is taken.

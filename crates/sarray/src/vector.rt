@@ -7,7 +7,7 @@ use elias_fano::image::{Opened, Parts, no_parts, open_if};
 use errors::Refusal;
 
 // A vector as opening finds it: its length, how many ones it has, the parts of its image, which one of zeros does not have, and its choice.
-#[derive(Drop)]
+#[derive(Clone, Copy)]
 pub struct SArray {
     pub num_bits: usize,
     pub num_ones: usize,
@@ -15,7 +15,7 @@ pub struct SArray {
     pub has_rank: bool,
 }
 
-#[derive(Drop)]
+#[derive(Clone, Copy)]
 pub enum Vector {
     Opened(SArray),
     Refused(Refusal),

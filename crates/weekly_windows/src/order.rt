@@ -22,7 +22,7 @@ const PART: u64 = 4096;
 const PARTS: usize = 148;
 
 // Inside the crate: what two windows that meet leave. The first of them, from a to b, is done with if `words` is 2; from x to y is what goes on.
-#[derive(Drop)]
+#[derive(Clone, Copy)]
 pub struct Met {
     pub a: u64,
     pub b: u64,

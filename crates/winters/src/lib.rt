@@ -19,7 +19,7 @@ use elias_fano_walk::walk::{Walk, take};
 use errors::Refusal;
 
 // What is told of the values of a span; 0 where there is none, and for the gap where there are not two.
-#[derive(Drop)]
+#[derive(Clone, Copy)]
 pub struct Summary {
     pub count: usize,
     pub first: u64,

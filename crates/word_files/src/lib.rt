@@ -10,7 +10,7 @@ mod reading;
 mod saving;
 pub mod say;
 
-#[derive(Drop)]
+#[derive(Clone, Copy)]
 pub enum Loaded {
     // So many words stand at the front of those that are lent.
     Words(usize),
@@ -24,7 +24,7 @@ pub enum Loaded {
     TooLong,
 }
 
-#[derive(Drop)]
+#[derive(Clone, Copy)]
 pub enum Saved {
     Done,
     // The file that stood there stands there still, unless only the directory could not be synced.

@@ -5,7 +5,7 @@ ghost use Rattle.word_files.specs.Files.{Within, Fits};
 use crate::Loaded;
 use crate::bytes::unpack;
 
-#[derive(Drop)]
+#[derive(Clone, Copy)]
 enum Filled {
     Bytes(usize),
     Failed,

@@ -5,7 +5,7 @@ use crate::bytes::pack;
 use crate::{Saved, names};
 
 // What became of the file that stood there.
-#[derive(Drop)]
+#[derive(Clone, Copy)]
 enum Old {
     Kept,
     Missing,
