@@ -1,0 +1,54 @@
+-- `darray::inner::build` meets its contract.
+-- Assumes nothing.
+use mathlib.Core.Path.{◌≡◌, sym, ◌∙◌, subst}
+use Prim.Native.Nat.{ℕ, ◌≤◌, ◌<◌}
+use lib.ListN.{length}
+use Rattle.bit_words.proofs.Valid.{valid}
+use Rattle.darray_positions.specs.Positions.{positions}
+use Rattle.darray_positions.specs.Index.{index_words}
+use Rattle.darray.proofs.Building as building
+use Rattle.darray.proofs.Cases as cases
+use Rattle.darray.proofs.inner.build.Goals as goal
+
+pub returns-then-is_invalid : goal.returns-then-is_invalid
+returns-then-is_invalid c = sym (cases.build_13 _ _ _ _ (sym c.is_invalid.ensures ∙ c.if-is_invalid.true))
+
+pub returns-then-len-ge-MAX_LEN : goal.returns-then-len-ge-MAX_LEN
+returns-then-len-ge-MAX_LEN c = sym (cases.build_2 _ _ _ _ (sym c.is_invalid.ensures ∙ c.if-is_invalid.false) c.if-len-ge-MAX_LEN.true)
+
+pub sizes_of-s-requires : goal.sizes_of-s-requires
+sizes_of-s-requires c = ((valid _ _ (sym c.is_invalid.ensures ∙ c.if-is_invalid.false)).room, c.if-len-ge-MAX_LEN.false)
+
+pub total-n-requires : goal.total-n-requires
+total-n-requires c =
+    let a = c.args in
+    building.sizes_lt (positions a.over_one a.words.now a.len) c.sizes_of-s.result c.sizes_of-s.ensures (building.positions_lt a.over_one a.words.now a.len c.if-len-ge-MAX_LEN.false)
+
+-- the number of words
+total : (c : goal.After-total-n) → c.total-n.result ≡ length (index_words (positions c.args.over_one c.args.words.now c.args.len))
+total c =
+    let a = c.args in
+    c.total-n.ensures ∙ building.index_length (positions a.over_one a.words.now a.len) c.sizes_of-s.result c.sizes_of-s.ensures
+
+pub returns-then-out-n : goal.returns-then-out-n
+returns-then-out-n c =
+    let a = c.args in
+    sym (cases.build_3 _ _ _ _ (sym c.is_invalid.ensures ∙ c.if-is_invalid.false) c.if-len-ge-MAX_LEN.false (subst (λ (n : ℕ). length a.out-1.now < n) (total c.before) c.if-out-n.true))
+
+pub write-requires : goal.write-requires
+write-requires c =
+    let a = c.args in
+    record {
+      positions = c.sizes_of-s.ensures.positions;
+      entries = c.sizes_of-s.ensures.entries;
+      lanes = c.sizes_of-s.ensures.lanes;
+      words = (valid _ _ (sym c.is_invalid.ensures ∙ c.if-is_invalid.false)).room;
+      few = c.if-len-ge-MAX_LEN.false;
+      room = subst (λ (n : ℕ). n ≤ length a.out-1.now) (total c.before.before) c.if-out-n.false;
+    }
+
+pub returns : goal.returns
+returns c =
+    let a = c.args in
+    cases.build_ok _ _ _ _ (sym c.is_invalid.ensures ∙ c.if-is_invalid.false) c.if-len-ge-MAX_LEN.false
+    (subst (λ (n : ℕ). n ≤ length a.out-1.now) (total c.before.before.before.before.before) c.if-out-n.false) _ _ (total c.before.before.before.before.before) c.write.ensures

@@ -1,0 +1,21 @@
+-- `darray::pending::lane` meets its contract.
+-- Assumes nothing.
+use mathlib.Core.Path.{sym, ◌∙◌}
+use lib.Dec.{lit<}
+use Rattle.darray.proofs.Flush as flush
+use Rattle.darray.proofs.pending.lane.Goals as goal
+
+pub returns-then-n-k : goal.returns-then-n-k
+returns-then-n-k c = (sym (flush.lane_none _ _ _ c.if-n-k.true), lit< tt)
+
+pub returns-then-wide : goal.returns-then-wide
+returns-then-wide c = (sym (flush.lane_wide _ _ _ c.if-n-k.false (sym c.requires.3 ∙ c.if-wide.true)), lit< tt)
+
+pub overflow_sub-result : goal.overflow_sub-result
+overflow_sub-result c = (c.requires.2 _ c.if-n-k.false).0
+
+pub returns : goal.returns
+returns c =
+    let p = c.requires in
+    let e = sym p.3 ∙ c.if-wide.false in
+    (sym (flush.lane_near _ _ _ c.if-n-k.false e), flush.near_lt _ _ _ p.2 c.if-n-k.false e)
