@@ -32,7 +32,7 @@ use Rattle.darray.proofs.Sampling as sampling
 
 pub holds_none : (P l : List ℕ) → Holds P l 0
 unfolding before count
-holds_none P l = record { entries = λ k h. absurd (not-suc-le-zero h); lane-words = λ t h g. absurd (not-suc-le-zero h); spilled = λ x h. absurd (not-suc-le-zero h) }
+holds_none P l = record { entries = λ k h. absurd (not-suc-le-zero h); lane_words = λ t h g. absurd (not-suc-le-zero h); spilled = λ x h. absurd (not-suc-le-zero h) }
 
 pub holds-whole : (P l l' : List ℕ) → length l' ≡ length l → length (index_words P) ≤ length l → Holds P l' (blocks P) → ((k : ℕ) → length (index_words P) ≤ k → get_or l' k 0 ≡ get_or l k 0)
     → l' ≡ index_words P ++ drop (length (index_words P)) l
@@ -196,9 +196,9 @@ module _ (b : Bool) (ws : List ℕ) (len : ℕ) (s : Sizes) (m : ℕ) (w : Writa
           some = omega (arith, block_there j h);
           few = omega arith;
           rising = rising;
-          entry-room = omega (arith, index.length_index (positions b ws len), there, room);
-          lanes-room = omega (arith, index.length_index (positions b ws len), flush.lanes-room (positions b ws len) j there, room, w.entries, size_is j z ez);
-          over-room = omega (arith, flush.over-room (positions b ws len) j there a stored l room, lanes_start (positions b ws len) s w.entries w.lanes, ap (block_spill a) (size_is j z ez));
+          entry_room = omega (arith, index.length_index (positions b ws len), there, room);
+          lanes_room = omega (arith, index.length_index (positions b ws len), flush.lanes_room (positions b ws len) j there, room, w.entries, size_is j z ez);
+          over_room = omega (arith, flush.over_room (positions b ws len) j there a stored l room, lanes_start (positions b ws len) s w.entries w.lanes, ap (block_spill a) (size_is j z ez));
         }
 
         module _ (l' : List ℕ) (e : l' ≡ flushed a z j (s.entries + 8 * j) o (s.entries + (s.lanes + 3) / 4 + o) l) where

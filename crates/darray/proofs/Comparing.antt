@@ -109,8 +109,8 @@ module _ (b : Bool) (ws : List ℕ) (len : ℕ) (s : Sizes) (l : List ℕ) (w : 
           some = omega (arith, first_there);
           few = omega arith;
           rising = building.rising b ws len right (length (index_words P)) writable j z h ez a' stored;
-          entry-room = h;
-          lanes-room = omega (arith, flush.lanes-room P j there, sized.lanes, building.size_is b ws len right (length (index_words P)) writable j z ez);
+          entry_room = h;
+          lanes_room = omega (arith, flush.lanes_room P j there, sized.lanes, building.size_is b ws len right (length (index_words P)) writable j z ez);
           lanes_fit = (building.sizes_lt P right sized (building.positions_lt b ws len w.few)).0;
           spilled = x.room;
           long = w.long;

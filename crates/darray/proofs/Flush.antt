@@ -136,17 +136,17 @@ module _ (P : List ℕ) (j : ℕ) (h : j < blocks P) (a : List ℕ) (is : Shows 
 -- ---- the words of one block more
 
 -- where the lane words of the block j stand
-pub lanes-room : (P : List ℕ) (j : ℕ) → j < blocks P → 8 * j + (size P j + 127) / 128 ≤ lane_words P
+pub lanes_room : (P : List ℕ) (j : ℕ) → j < blocks P → 8 * j + (size P j + 127) / 128 ≤ lane_words P
 unfolding blocks size lane_words lanes
-lanes-room P j h = omega arith
+lanes_room P j h = omega arith
 
 pub lanes_all : (P : List ℕ) (j t : ℕ) → j < blocks P → t < 8 * (j + 1) → t < lane_words P → t < 8 * j + (size P j + 127) / 128
 unfolding blocks size lane_words lanes
 lanes_all P j t h g l = omega arith
 
 module _ (P : List ℕ) (j : ℕ) (h : j < blocks P) (a : List ℕ) (is : Shows P j a) (l : List ℕ) (room : length (index_words P) ≤ length l) where
-  pub over-room : blocks P + lane_words P + before P j + block_spill a (size P j) ≤ length l
-  over-room = omega (arith, room, index.length_index P, spill_block P j h a is, index.before_next P j, index.before_mono P (suc j) (blocks P) h)
+  pub over_room : blocks P + lane_words P + before P j + block_spill a (size P j) ≤ length l
+  over_room = omega (arith, room, index.length_index P, spill_block P j h a is, index.before_next P j, index.before_mono P (suc j) (blocks P) h)
 
   abbrev after : List ℕ
   after = flushed a (size P j) j (blocks P + 8 * j) (before P j) (blocks P + lane_words P + before P j) l
@@ -173,7 +173,7 @@ module _ (P : List ℕ) (j : ℕ) (h : j < blocks P) (a : List ℕ) (is : Shows 
   not_lanes_low k g = put_low with_entry (blocks P + 8 * j) (block_lane_word a (size P j)) ((size P j + 127) / 128) k g
 
   not_lanes_high : (k : ℕ) → blocks P + lane_words P ≤ k → get_or with_lanes k 0 ≡ get_or with_entry k 0
-  not_lanes_high k g = put_high with_entry (blocks P + 8 * j) (block_lane_word a (size P j)) ((size P j + 127) / 128) k (omega (arith, lanes-room P j h))
+  not_lanes_high k g = put_high with_entry (blocks P + 8 * j) (block_lane_word a (size P j)) ((size P j + 127) / 128) k (omega (arith, lanes_room P j h))
 
   not_entry : (k : ℕ) → (k ≡ j → ⊥) → get_or with_entry k 0 ≡ get_or l k 0
   not_entry k g = get_or-set_other l j k (block_entry a (size P j) (before P j)) 0 g
@@ -194,7 +194,7 @@ module _ (P : List ℕ) (j : ℕ) (h : j < blocks P) (a : List ℕ) (is : Shows 
   unfolding flushed
   holds_next s = record {
     entries = λ k g. by_entry k (eq-or-lt_of_le (below_one k j g));
-    lane-words = λ t g e. by_lane t g e (dec_lt t (8 * j));
+    lane_words = λ t g e. by_lane t g e (dec_lt t (8 * j));
     spilled = λ x g. by_over x g (dec_lt x (before P j));
   }
     where
@@ -212,14 +212,14 @@ module _ (P : List ℕ) (j : ℕ) (h : j < blocks P) (a : List ℕ) (is : Shows 
 
       by_lane : (t : ℕ) → t < 8 * (j + 1) → t < lane_words P → Dec (t < 8 * j) → get_or after (blocks P + t) 0 ≡ lane_word P t
       by_lane t g e (yes q) =
-          not_over (blocks P + t) (omega arith) ∙ not_lanes_low (blocks P + t) (omega arith) ∙ not_entry (blocks P + t) (λ (z : blocks P + t ≡ j). omega arith) ∙ s.lane-words t q e
+          not_over (blocks P + t) (omega arith) ∙ not_lanes_low (blocks P + t) (omega arith) ∙ not_entry (blocks P + t) (λ (z : blocks P + t ≡ j). omega arith) ∙ s.lane_words t q e
       by_lane t g e (no q) =
           let i : ℕ = t - 8 * j in
           let z : blocks P + 8 * j + i ≡ blocks P + t = omega arith in
           let y : 8 * j + i ≡ t = omega arith in
           not_over (blocks P + t) (omega arith) ∙ ap (λ (m : ℕ). get_or with_lanes m 0) (sym z)
           ∙ put_in with_entry (blocks P + 8 * j) (block_lane_word a (size P j)) ((size P j + 127) / 128) i
-          (omega (arith, lanes-room P j h, index.length_index P, length-set l j (block_entry a (size P j) (before P j)))) (omega (arith, lanes_all P j t h g e))
+          (omega (arith, lanes_room P j h, index.length_index P, length-set l j (block_entry a (size P j) (before P j)))) (omega (arith, lanes_all P j t h g e))
           ∙ lane_word_block P j h a is i (omega arith) ∙ ap (lane_word P) y
 
       by_over : (x : ℕ) → x < before P (j + 1) → Dec (x < before P j) → get_or after (blocks P + lane_words P + x) 0 ≡ get_or (overflow P (blocks P)) x 0
@@ -232,7 +232,7 @@ module _ (P : List ℕ) (j : ℕ) (h : j < blocks P) (a : List ℕ) (is : Shows 
           let m : i < spill P j = omega (arith, index.before_next P j, ap (before P) (add-one j)) in
           ap (λ (k : ℕ). get_or after k 0) (sym z)
           ∙ put_in with_lanes (blocks P + lane_words P + before P j) (λ i. get_or a i 0) (block_spill a (size P j)) i
-          (omega (arith, over-room, length-put with_entry (blocks P + 8 * j) (block_lane_word a (size P j)) ((size P j + 127) / 128), length-set l j (block_entry a (size P j) (before P j)))) (omega (arith, spill_block P j h a is))
+          (omega (arith, over_room, length-put with_entry (blocks P + 8 * j) (block_lane_word a (size P j)) ((size P j + 127) / 128), length-set l j (block_entry a (size P j) (before P j)))) (omega (arith, spill_block P j h a is))
           ∙ is.all i m ∙ sym (index.overflow_at P j i (blocks P) m h) ∙ ap (λ (k : ℕ). get_or (overflow P (blocks P)) k 0) y
 
 -- ---- the steps of a flush

@@ -42,9 +42,9 @@ module _ (P : List ℕ) (j : ℕ) (h : j < blocks P) (a : List ℕ) (is : Shows 
   pub index_matches : l ≡ index_words P → Matches a (size P j) j (blocks P + 8 * j) (before P j) (blocks P + lane_words P + before P j) l
   index_matches e = record {
     entry = ap (λ (x : List ℕ). get_or x j 0) e ∙ index.index_entry P j h ∙ sym (flush.entry_block P j h a is);
-    lane-words = λ t g.
+    lane_words = λ t g.
         let q : blocks P + 8 * j + t ≡ blocks P + (8 * j + t) = omega arith in
-        ap₂ (λ (x : List ℕ) (k : ℕ). get_or x k 0) e q ∙ index.index_lanes P (8 * j + t) (omega (arith, flush.lanes-room P j h)) ∙ sym (flush.lane_word_block P j h a is t (omega (arith, index.size_le P j)));
+        ap₂ (λ (x : List ℕ) (k : ℕ). get_or x k 0) e q ∙ index.index_lanes P (8 * j + t) (omega (arith, flush.lanes_room P j h)) ∙ sym (flush.lane_word_block P j h a is t (omega (arith, index.size_le P j)));
     spilled = λ i g.
         let q : blocks P + lane_words P + before P j + i ≡ blocks P + lane_words P + (before P j + i) = omega arith in
         let m : i < spill P j = subst (λ (n : ℕ). i < n) (flush.spill_block P j h a is) g in
@@ -55,7 +55,7 @@ module _ (P : List ℕ) (j : ℕ) (h : j < blocks P) (a : List ℕ) (is : Shows 
   pub matches_next : Matches a (size P j) j (blocks P + 8 * j) (before P j) (blocks P + lane_words P + before P j) l → Holds P l j → Holds P l (j + 1)
   matches_next m s = record {
     entries = λ k g. by_entry k (eq-or-lt_of_le (below_one k j g));
-    lane-words = λ t g e. by_lane t g e (dec_lt t (8 * j));
+    lane_words = λ t g e. by_lane t g e (dec_lt t (8 * j));
     spilled = λ x g. by_over x g (dec_lt x (before P j));
   }
     where
@@ -66,12 +66,12 @@ module _ (P : List ℕ) (j : ℕ) (h : j < blocks P) (a : List ℕ) (is : Shows 
       by_entry k w = ⊎_elim (λ (e : k ≡ j). ap (λ (i : ℕ). get_or l i 0) e ∙ m.entry ∙ flush.entry_block P j h a is ∙ ap (entry P) (sym e)) (λ (g : k < j). s.entries k g) w
 
       by_lane : (t : ℕ) → t < 8 * (j + 1) → t < lane_words P → Dec (t < 8 * j) → get_or l (blocks P + t) 0 ≡ lane_word P t
-      by_lane t g e (yes q) = s.lane-words t q e
+      by_lane t g e (yes q) = s.lane_words t q e
       by_lane t g e (no q) =
           let i : ℕ = t - 8 * j in
           let z : blocks P + 8 * j + i ≡ blocks P + t = omega arith in
           let y : 8 * j + i ≡ t = omega arith in
-          ap (λ (k : ℕ). get_or l k 0) (sym z) ∙ m.lane-words i (omega (arith, flush.lanes_all P j t h g e)) ∙ flush.lane_word_block P j h a is i (omega arith) ∙ ap (lane_word P) y
+          ap (λ (k : ℕ). get_or l k 0) (sym z) ∙ m.lane_words i (omega (arith, flush.lanes_all P j t h g e)) ∙ flush.lane_word_block P j h a is i (omega arith) ∙ ap (lane_word P) y
 
       by_over : (x : ℕ) → x < before P (j + 1) → Dec (x < before P j) → get_or l (blocks P + lane_words P + x) 0 ≡ get_or (overflow P (blocks P)) x 0
       by_over x g (yes q) = s.spilled x q

@@ -23,7 +23,7 @@ use Rattle.darray_positions.proofs.Counts as counts
 pub record Left (b : Bool) (ws : List ℕ) (i w k : ℕ) : Type 0 where
   pub low : count (bit_over b ws) (i * 64) ≤ k
   pub high : k ≤ count (bit_over b ws) (i * 64) + ones (word_over b (get_or ws i 0)) 64
-  pub ones-left : (j : ℕ) → select (bit w) 64 j ≡ select (bit (word_over b (get_or ws i 0))) 64 (k - count (bit_over b ws) (i * 64) + j)
+  pub ones_left : (j : ℕ) → select (bit w) 64 j ≡ select (bit (word_over b (get_or ws i 0))) 64 (k - count (bit_over b ws) (i * 64) + j)
 
 count_more : (f : ℕ → ℕ) (n : ℕ) → count f (suc n) ≡ count f n + f n
 unfolding count
@@ -47,17 +47,17 @@ module _ (b : Bool) (ws : List ℕ) (fit : Fit ws) (i w k : ℕ) (l : Left b ws 
   left_next z =
       let n : ℕ = count (bit_over b ws) (i * 64) in
       let v : ℕ = word_over b (get_or ws i 0) in
-      let s : select (bit v) 64 (k - n + 0) ≡ Nothing = sym (l.ones-left 0) ∙ z in
+      let s : select (bit v) 64 (k - n + 0) ≡ Nothing = sym (l.ones_left 0) ∙ z in
       let e : k ≡ count (bit_over b ws) ((i + 1) * 64) = omega (arith, few v (k - n + 0) s, l.low, l.high, counts.count_up b ws fit n i (ones v 64) refl refl) in
       record {
         low = le_of_eq (sym e);
         high = omega arith;
-        ones-left = λ d. let q : k - count (bit_over b ws) ((i + 1) * 64) + d ≡ d = omega arith in ap (select (bit (word_over b (get_or ws (i + 1) 0))) 64) (sym q);
+        ones_left = λ d. let q : k - count (bit_over b ws) ((i + 1) * 64) + d ≡ d = omega arith in ap (select (bit (word_over b (get_or ws (i + 1) 0))) 64) (sym q);
       }
 
   module _ (s : ℕ) (at : At s ≡ select (bit w) 64 0) where
     found : At s ≡ select (bit (word_over b (get_or ws i 0))) 64 (k - count (bit_over b ws) (i * 64))
-    found = at ∙ l.ones-left 0 ∙ ap (select (bit (word_over b (get_or ws i 0))) 64) (let q : k - count (bit_over b ws) (i * 64) + 0 ≡ k - count (bit_over b ws) (i * 64) = omega arith in q)
+    found = at ∙ l.ones_left 0 ∙ ap (select (bit (word_over b (get_or ws i 0))) 64) (let q : k - count (bit_over b ws) (i * 64) + 0 ≡ k - count (bit_over b ws) (i * 64) = omega arith in q)
 
     -- the lowest one that is left is the next position
     pub left_position : Position (bit_over b ws) k (i * 64 + s)
@@ -73,7 +73,7 @@ module _ (b : Bool) (ws : List ℕ) (fit : Fit ws) (i w k : ℕ) (l : Left b ws 
         record {
           low = omega (arith, l.low);
           high = omega (arith, l.low, r.before, r.one, count_more (bit x) s);
-          ones-left = λ d. h d ∙ l.ones-left (d + 1) ∙ ap (select (bit x) 64) (let q : k - n + (d + 1) ≡ k + 1 - n + d = omega (arith, l.low) in q);
+          ones_left = λ d. h d ∙ l.ones_left (d + 1) ∙ ap (select (bit x) 64) (let q : k - n + (d + 1) ≡ k + 1 - n + d = omega (arith, l.low) in q);
         }
 
 -- at the word of a position all before it are gone
@@ -88,7 +88,7 @@ left-start b ws fit k p w q e =
     record {
       low = omega (arith, q.before);
       high = omega (arith, q.before, count_mono (bit x) s 64 (omega arith));
-      ones-left = λ j.
+      ones_left = λ j.
           ap (λ (y : ℕ). select (bit y) 64 j) e
           ∙ select_from (bit x) (bit (x / 2 ^ s * 2 ^ s)) s (rest_low x s) (λ i. sym (rest_high x s i)) 64 j (omega arith) (bit_le (x / 2 ^ s * 2 ^ s))
           ∙ ap (λ (y : ℕ). select (bit x) 64 (y + j)) d;

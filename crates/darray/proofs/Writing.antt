@@ -59,9 +59,9 @@ module _ (a : List ℕ) (n j x o y at x' y' : ℕ) (l : List ℕ) (ex : x' ≡ a
     some = f.some;
     few = f.few;
     rising = f.rising;
-    entry-room = omega (arith, f.entry-room);
-    lanes-room = omega (arith, f.lanes-room);
-    over-room = omega (arith, f.over-room);
+    entry_room = omega (arith, f.entry_room);
+    lanes_room = omega (arith, f.lanes_room);
+    over_room = omega (arith, f.over_room);
   }
 
 -- ---- a write of the index of the len bits of ws to the words l₀, from the place `at` on

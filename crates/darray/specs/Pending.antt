@@ -73,9 +73,9 @@ pub record Flushable (a : List ℕ) (n j lanes_at o over_at m : ℕ) : Type 0 wh
   pub some : 0 < n
   pub few : n ≤ 1024
   pub rising : LanesRise a n
-  pub entry-room : j < m
-  pub lanes-room : lanes_at + (n + 127) / 128 ≤ m
-  pub over-room : over_at + block_spill a n ≤ m
+  pub entry_room : j < m
+  pub lanes_room : lanes_at + (n + 127) / 128 ≤ m
+  pub over_room : over_at + block_spill a n ≤ m
 
 -- where the distances of the block j stand in the index at the place at, and where overflow positions with o before them do
 abbrev pub lanes_at : ℕ → Sizes → ℕ → ℕ
@@ -100,7 +100,7 @@ Reads l at f n = (i : ℕ) → i < n → get_or l (at + i) 0 ≡ f i
 -- the words of l are those that a flush of the block j writes
 pub record Matches (a : List ℕ) (n j lanes_at o over_at : ℕ) (l : List ℕ) : Type 0 where
   pub entry : get_or l j 0 ≡ block_entry a n o
-  pub lane-words : Reads l lanes_at (block_lane_word a n) ((n + 127) / 128)
+  pub lane_words : Reads l lanes_at (block_lane_word a n) ((n + 127) / 128)
   pub spilled : Reads l over_at (λ i. get_or a i 0) (block_spill a n)
 
 -- a block of the n positions in a, with o overflow positions before it, and m words that are compared with the index of the sizes s
@@ -108,8 +108,8 @@ pub record Comparing (a : List ℕ) (n : ℕ) (s : Sizes) (j o m : ℕ) : Type 0
   pub some : 0 < n
   pub few : n ≤ 1024
   pub rising : LanesRise a n
-  pub entry-room : j < s.entries
-  pub lanes-room : 8 * j + (n + 127) / 128 ≤ (s.lanes + 3) / 4
+  pub entry_room : j < s.entries
+  pub lanes_room : 8 * j + (n + 127) / 128 ≤ (s.lanes + 3) / 4
   pub lanes_fit : s.lanes + 3 < 2 ^ 64
   pub spilled : o ≤ s.overflow
   pub long : s.entries + (s.lanes + 3) / 4 + s.overflow ≡ m

@@ -230,8 +230,8 @@ module _ (P : List ℕ) (r : Rising P) where
 -- l has the words of the blocks before j in their places
 pub record Holds (P l : List ℕ) (j : ℕ) : Type 0 where
   pub entries : (k : ℕ) → k < j → get_or l k 0 ≡ entry P k
-  pub lane-words : (t : ℕ) → t < 8 * j → t < lane_words P → get_or l (blocks P + t) 0 ≡ lane_word P t
   pub spilled : (x : ℕ) → x < before P j → get_or l (blocks P + lane_words P + x) 0 ≡ get_or (overflow P (blocks P)) x 0
+  pub lane_words : (t : ℕ) → t < 8 * j → t < lane_words P → get_or l (blocks P + t) 0 ≡ lane_word P t
 
 -- where it has those of all blocks, it has the words of the index
 pub holds_all : (P l : List ℕ) → Holds P l (blocks P) → (i : ℕ) → i < length (index_words P) → get_or l i 0 ≡ get_or (index_words P) i 0
@@ -239,7 +239,7 @@ holds_all P l h i d = by_entry (dec_lt i (blocks P))
   where
     by_lane : (t : ℕ) → blocks P + t ≡ i → Dec (t < lane_words P) → get_or l i 0 ≡ get_or (index_words P) i 0
     by_lane t e (yes g) =
-        ap (λ (k : ℕ). get_or l k 0) (sym e) ∙ h.lane-words t (omega (arith, lane_words_le P)) g ∙ sym (index_lanes P t g) ∙ ap (λ (k : ℕ). get_or (index_words P) k 0) e
+        ap (λ (k : ℕ). get_or l k 0) (sym e) ∙ h.lane_words t (omega (arith, lane_words_le P)) g ∙ sym (index_lanes P t g) ∙ ap (λ (k : ℕ). get_or (index_words P) k 0) e
     by_lane t e (no g) =
         let x : ℕ = t - lane_words P in
         let q : blocks P + lane_words P + x ≡ i = omega arith in

@@ -233,13 +233,13 @@ module _ (b : Builder) (w : List ℕ) (f : Holding b w) where
     image_is = λ x. u ∷ n ∷ length_T x ∷ flag c ∷ over_is true x ∷ cond c (over_is false x) 0 ∷ body_is x
 
     -- how long the image is
-    pub length-image : length (image_of b c w) ≡ image_len u n m c (over true) (cond c (over false) 0)
+    pub length_image : length (image_of b c w) ≡ image_len u n m c (over true) (cond c (over false) 0)
     unfolding image_of held_times
-    length-image = lengths.image-length u n T rises few_T c ∙ (λ x. image_len u n (length_T x) c (over_is true x) (cond c (over_is false x) 0))
+    length_image = lengths.image-length u n T rises few_T c ∙ (λ x. image_len u n (length_T x) c (over_is true x) (cond c (over_is false x) 0))
 
-    pub within-limit : length (image_of b c w) ≤ limit u n c
+    pub within_limit : length (image_of b c w) ≤ limit u n c
     unfolding image_of held_times
-    within-limit = limit-law.image_most u n T rises few_T c
+    within_limit = limit-law.image_most u n T rises few_T c
 
     length_parts : length (image_of b c w) ≡ at + length ones + length zeros
     length_parts =
@@ -335,8 +335,8 @@ module _ (b : Builder) (w : List ℕ) (f : Holding b w) where
                 ones_over : o ≡ over true
                 ones_over = eo ∙ ap (λ (y : ℕ). before (positions true (take (words_for y) (drop 6 w)) y) (blocks (positions true (take (words_for y) (drop 6 w)) y))) eh
 
-                zeros-over : z ≡ cond c (over false) 0
-                zeros-over =
+                zeros_over : z ≡ cond c (over false) 0
+                zeros_over =
                     ez ∙ ap (λ (y : ℕ). cond c (before (positions false (take (words_for y) (drop 6 w₁)) y) (blocks (positions false (take (words_for y) (drop 6 w₁)) y))) 0) eh
                     ∙ ap (λ (y : List ℕ). cond c (before (positions false y H) (blocks (positions false y H))) 0) high_1
 
@@ -347,12 +347,12 @@ module _ (b : Builder) (w : List ℕ) (f : Holding b w) where
                     let B : drop 6 w₂ ≡ bits ++ X =
                     ap (drop 6) (words_2 ∙ ap (λ (A : List ℕ). A ++ X) front_2 ∙ append_assoc (take 6 w) bits X)
                     ∙ drop_at (take 6 w) (bits ++ X) 6 (length-take-le 6 w (let z = ends in omega arith)) in
-                    e₃ ∙ (λ x. u ∷ n ∷ m ∷ flag c ∷ ones_over x ∷ zeros-over x ∷ B x)
+                    e₃ ∙ (λ x. u ∷ n ∷ m ∷ flag c ∷ ones_over x ∷ zeros_over x ∷ B x)
                     ∙ ap (λ (R : List ℕ). header ++ R) (sym (append_assoc bits (ones ++ zeros) D))
                     ∙ ap (λ (I : List ℕ). I ++ D) (sym image_is)
 
                 pub length_written : (k : ℕ) → k ≡ image_len u n m c o z → k ≡ length (image_of b c w)
-                length_written k e = e ∙ ap₂ (λ (x y : ℕ). image_len u n m c x y) ones_over zeros-over ∙ sym length-image
+                length_written k e = e ∙ ap₂ (λ (x y : ℕ). image_len u n m c x y) ones_over zeros_over ∙ sym length_image
 
   -- ---- a program's numbers
 
@@ -434,8 +434,8 @@ module _ (b : Builder) (w : List ℕ) (f : Holding b w) where
 
       pub measured_is : (o z k : ℕ) → o ≡ before (P true) (blocks (P true)) → z ≡ cond c (before (P false) (blocks (P false))) 0 → k ≡ image_len u n m c o z → k ≡ length (image_of b c w)
       measured_is o z k eo ez e =
-          e ∙ ap₂ (λ (x y : ℕ). image_len u n m c x y) (eo ∙ measured_over true) (ez ∙ ap (λ (y : ℕ). cond c y 0) (measured_over false)) ∙ sym (length-image c)
+          e ∙ ap₂ (λ (x y : ℕ). image_len u n m c x y) (eo ∙ measured_over true) (ez ∙ ap (λ (y : ℕ). cond c y 0) (measured_over false)) ∙ sym (length_image c)
 
       -- there is room where the words are as many as the limit
-      pub limit-room : (x : ℕ) → x ≡ limit u n c → x ≤ length w → true ≡ leb (length (image_of b c w)) (length w)
-      limit-room x e h = sym (le-leb (length (image_of b c w)) (length w) (let a = within-limit c in omega arith))
+      pub limit_room : (x : ℕ) → x ≡ limit u n c → x ≤ length w → true ≡ leb (length (image_of b c w)) (length w)
+      limit_room x e h = sym (le-leb (length (image_of b c w)) (length w) (let a = within_limit c in omega arith))

@@ -59,8 +59,8 @@ module _ (u n : ℕ) (T : List ℕ) (f : Fits u n T) (many : length T ≡ n) whe
     pub limit_ready : (s.start_len < 2 ^ 32) × (s.high_len < 2 ^ 32) × (n < 2 ^ 32)
     limit_ready = limit-law.limit_ready u n f.small f.some f.most s es
 
-    pub limit-room : (x k : ℕ) → x ≡ limit u n c → x ≤ k → true ≡ leb (length (image u n c T)) k
-    limit-room x k e h = sym (le-leb (length (image u n c T)) k (let a = limit-law.image_most u n T f.rises f.few c in omega arith))
+    pub limit_room : (x k : ℕ) → x ≡ limit u n c → x ≤ k → true ≡ leb (length (image u n c T)) k
+    limit_room x k e h = sym (le-leb (length (image u n c T)) k (let a = limit-law.image_most u n T f.rises f.few c in omega arith))
 
     over_is : (b : Bool) → spilled (high_positions u n b T) ≡ before (high_positions u n b T) (blocks (high_positions u n b T))
     over_is b = length-overflow (high_positions u n b T) (blocks (high_positions u n b T))

@@ -128,13 +128,13 @@ module _ (i : List ℕ) (ok : accepted i ≡ true) (p : Parts) (ep : p ≡ parts
     time_small : t < 2 ^ 64
     time_small = let a = rising_lt u T k (images.is_fit i ok).rises in_list in let b = (images.is_fit i ok).small in omega arith
 
-    over-one : bit_over true (take (p.low_at - 6) (drop 6 i)) ≡ bit_at (take (p.low_at - 6) (drop 6 i))
+    over_one : bit_over true (take (p.low_at - 6) (drop 6 i)) ≡ bit_at (take (p.low_at - 6) (drop 6 i))
     unfolding bit_over
-    over-one = refl
+    over_one = refl
 
     pub place_is : select (bit_over true (take (p.low_at - 6) (drop 6 i))) p.high_len k ≡ At (place_of l T k)
     place_is =
-        ap (λ (f : ℕ → ℕ). select f p.high_len k) over-one ∙ ap₂ (λ (w : List ℕ) (j : ℕ). select (bit_at w) j k) high_is high_len_is
+        ap (λ (f : ℕ → ℕ). select f p.high_len k) over_one ∙ ap₂ (λ (w : List ℕ) (j : ℕ). select (bit_at w) j k) high_is high_len_is
         ∙ select_high u n T (images.is_fit i ok).rises (images.is_fit i ok).few k in_list
 
     at_inj : (a b : ℕ) → At a ≡ At b → a ≡ b

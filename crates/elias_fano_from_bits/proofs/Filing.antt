@@ -57,9 +57,9 @@ module _ (ws : List ℕ) (len n : ℕ) (s : Sizes) (q : Sizable ws len n s) wher
     pub limit_ready : (s.start_len < 2 ^ 32) × (s.high_len < 2 ^ 32) × (n < 2 ^ 32)
     limit_ready = subst⁻¹ (λ (m : ℕ). (s.start_len < 2 ^ 32) × (s.high_len < 2 ^ 32) × (m < 2 ^ 32)) q.number (listing.limit_ready len N T F refl c s q.sizes)
 
-    pub limit-room : (x k : ℕ) → ((u : ℕ) → s ≡ sizes_of u n → x ≡ limit u n c) → x ≤ k → true ≡ leb (length (bits_image ws len c)) k
+    pub limit_room : (x k : ℕ) → ((u : ℕ) → s ≡ sizes_of u n → x ≡ limit u n c) → x ≤ k → true ≡ leb (length (bits_image ws len c)) k
     unfolding bits_image
-    limit-room x k e = listing.limit-room len N T F refl c s q.sizes x k (e len (q.sizes ∙ ap (sizes_of len) (sym q.number)) ∙ ap (λ (m : ℕ). limit len m c) q.number)
+    limit_room x k e = listing.limit_room len N T F refl c s q.sizes x k (e len (q.sizes ∙ ap (sizes_of len) (sym q.number)) ∙ ap (λ (m : ℕ). limit len m c) q.number)
 
     module _ (o z : ℕ) (eo : o ≡ before (positions_of ws len true) (blocks (positions_of ws len true))) (ez : z ≡ cond c (before (positions_of ws len false) (blocks (positions_of ws len false))) 0) where
       pub len_ready : (s.low_at < 2 ^ 32) × (n * s.low_len < 2 ^ 32) × (s.high_len < 2 ^ 32) × (n ≤ s.high_len) × (o < 2 ^ 32) × (z < 2 ^ 32)

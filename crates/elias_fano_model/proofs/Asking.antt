@@ -11,7 +11,7 @@ use Rattle.elias_fano.specs.Ask.{ReadFrom, query, filled, read_from_of}
 use Rattle.elias_fano.proofs.Images.{Fits, image-accepted, image-times, image-query}
 use Rattle.elias_fano_model.specs.Model.{times_from, choice_from}
 use Rattle.elias_fano_model.specs.Demand2.{Answers, Demand2}
-use Rattle.elias_fano_model.proofs.Book.{times-fit, written_image}
+use Rattle.elias_fano_model.proofs.Book.{times_fit, written_image}
 
 module _ (u n : ℕ) (c : Bool) (T : List ℕ) (f : Fits u n T) where
   abbrev I : List ℕ
@@ -32,4 +32,4 @@ module _ (u n : ℕ) (c : Bool) (T : List ℕ) (f : Fits u n T) where
 pub demand2 : Demand2
 demand2 u n lent calls b k e =
     subst⁻¹ (Answers u n (choice_from u n lent [] calls) (times_from u n lent [] calls)) (written_image u n lent b calls k e)
-    (answers u n (choice_from u n lent [] calls) (times_from u n lent [] calls) (times-fit u n lent b calls k e))
+    (answers u n (choice_from u n lent [] calls) (times_from u n lent [] calls) (times_fit u n lent b calls k e))

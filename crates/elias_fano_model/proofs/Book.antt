@@ -123,8 +123,8 @@ module _ (u n : ℕ) (lent : List ℕ) (begun : Begun u n lent) where
   push_step : (T : List ℕ) (t : ℕ) → Fits u n T → Pushes T t
   push_step T t f = push_by T t f (ltb t (last_of T)) (leb u t) (eqb (length T) n) refl refl refl
 
-  pub after-fits : (T : List ℕ) (t : ℕ) → Fits u n T → Fits u n (after u n lent T t)
-  after-fits T t f = (push_step T t f).fits
+  pub after_fits : (T : List ℕ) (t : ℕ) → Fits u n T → Fits u n (after u n lent T t)
+  after_fits T t f = (push_step T t f).fits
 
   -- ---- a build
 
@@ -218,23 +218,23 @@ module _ (u n : ℕ) (lent : List ℕ) (begun : Begun u n lent) where
   end_is xs = ap₂ end_from start (begins xs)
 
   -- its first words are the image of the accepted times
-  image-left : (T : List ℕ) (c : Bool) (k : ℕ) (s : Made) → Ends T c s → s.answer ≡ value k → take k s.words ≡ image u n c T
-  image-left T c k s e v =
+  image_left : (T : List ℕ) (c : Bool) (k : ℕ) (s : Made) → Ends T c s → s.answer ≡ value k → take k s.words ≡ image u n c T
+  image_left T c k s e v =
       let I = image u n c T in
       let n₀ : length I ≡ k = value_inj (length I) k (sym (ap (λ (x : Made). x.answer) e.is) ∙ v) in
       ap₂ take (sym n₀) (ap (λ (x : Made). x.words) e.is) ∙ take-append_seam I (drop (length I) (W T))
 
   -- that image is accepted, and shows them
-  shown-left : (T : List ℕ) (c : Bool) (k : ℕ) (s : Made) → Ends T c s → s.answer ≡ value k → (accepted (take k s.words) ≡ true) × (shown (take k s.words) ≡ T)
-  shown-left T c k s e v =
-      let i : take k s.words ≡ image u n c T = image-left T c k s e v in
+  shown_left : (T : List ℕ) (c : Bool) (k : ℕ) (s : Made) → Ends T c s → s.answer ≡ value k → (accepted (take k s.words) ≡ true) × (shown (take k s.words) ≡ T)
+  shown_left T c k s e v =
+      let i : take k s.words ≡ image u n c T = image_left T c k s e v in
       let ok : accepted (image u n c T) ≡ true = image-accepted u n c T e.fits in
       (ap accepted i ∙ ok, ap shown i ∙ shown-times (image u n c T) ok ∙ image-times u n c T e.fits)
 
   -- of the calls after those that left T
   pub shown_from_lem : (T : List ℕ) (xs : List Call) (k : ℕ) → Fits u n T → (s : Made) → closes s.answer ≡ false → (end_from s (book_from u n lent T xs)).answer ≡ value k
       → (accepted (take k (end_from s (book_from u n lent T xs)).words) ≡ true) × (shown (take k (end_from s (book_from u n lent T xs)).words) ≡ times_from u n lent T xs)
-  shown_from_lem T xs k f s g e = shown-left (times_from u n lent T xs) (choice_from u n lent T xs) k (end_from s (book_from u n lent T xs)) (ends_from T xs k f s g e) e
+  shown_from_lem T xs k f s g e = shown_left (times_from u n lent T xs) (choice_from u n lent T xs) k (end_from s (book_from u n lent T xs)) (ends_from T xs k f s g e) e
 
   ends : (xs : List Call) (k : ℕ) → (end_of u n lent xs).answer ≡ value k → Ends (times_from u n lent [] xs) (choice_from u n lent [] xs) (end_of u n lent xs)
   ends xs k e =
@@ -242,16 +242,16 @@ module _ (u n : ℕ) (lent : List ℕ) (begun : Begun u n lent) where
       (ends_from [] xs k fits_none (open_book u n lent done []) refl (sym (ap (λ (x : Made). x.answer) (end_is xs)) ∙ e))
 
   module _ (xs : List Call) (k : ℕ) (e : (end_of u n lent xs).answer ≡ value k) where
-    pub times-fit : Fits u n (times_from u n lent [] xs)
-    times-fit = (ends xs k e).fits
+    pub times_fit : Fits u n (times_from u n lent [] xs)
+    times_fit = (ends xs k e).fits
 
     pub written_image : take k (end_of u n lent xs).words ≡ image u n (choice_from u n lent [] xs) (times_from u n lent [] xs)
-    written_image = image-left (times_from u n lent [] xs) (choice_from u n lent [] xs) k (end_of u n lent xs) (ends xs k e) e
+    written_image = image_left (times_from u n lent [] xs) (choice_from u n lent [] xs) k (end_of u n lent xs) (ends xs k e) e
 
   pub by_the_book : (xs : List Call) → ByTheBook u n lent xs
   by_the_book xs = record {
     every_call = every xs;
-    finished = λ k e. shown-left (times_from u n lent [] xs) (choice_from u n lent [] xs) k (end_of u n lent xs) (ends xs k e) e;
+    finished = λ k e. shown_left (times_from u n lent [] xs) (choice_from u n lent [] xs) k (end_of u n lent xs) (ends xs k e) e;
   }
 
 pub whole : Whole

@@ -24,7 +24,7 @@ use Rattle.elias_fano.proofs.Images.{Fits, is_fit, is_image}
 use Rattle.elias_fano_model.specs.Model.{Call, push, build, answer_to, after, too_long, open_book, closed_book, book_from, book}
 use Rattle.elias_fano_model.specs.Demand3.{step_of, closes, run_from, run, Words, Begun}
 use Rattle.elias_fano_model.specs.Memory.{Bounded, finishes_with, NotShort, Memory}
-use Rattle.elias_fano_model.proofs.Book.{answer_is, fits_none, after-fits, every, by_the_book}
+use Rattle.elias_fano_model.proofs.Book.{answer_is, fits_none, after_fits, every, by_the_book}
 
 -- ---- every image
 
@@ -99,7 +99,7 @@ module _ (u n : ℕ) (c : Bool) (lent : List ℕ) (begun : Begun u n lent) (enou
   model_from : (T : List ℕ) (xs : List Call) → Fits u n T → finishes_with c xs ≡ true → NotShort (book_from u n lent T xs)
   unfolding book_from
   model_from T [] f h = tt
-  model_from T (push t ∷ xs) f h = (reading T t, model_from (after u n lent T t) xs (after-fits u n lent begun T t f) h)
+  model_from T (push t ∷ xs) f h = (reading T t, model_from (after u n lent T t) xs (after_fits u n lent begun T t f) h)
   model_from T (build d ∷ xs) f h =
       subst⁻¹ (λ (b : Bool). NotShort (cond b (open_book u n lent (refused 3) T ∷ book_from u n lent T xs) (closed_book u n lent d T ∷ [])))
       (fits-lent T d f (and_true (c || not d) (finishes_with c xs) h).0) (value_not_short (length (image u n d T)), tt)

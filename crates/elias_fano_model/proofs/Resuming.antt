@@ -23,7 +23,7 @@ use Rattle.elias_fano.proofs.Resuming as held
 use Rattle.elias_fano_model.specs.Model.{Call, push, build, answer_to, after, open_words, numbers, too_long, open_book, closed_book, book_from, book, times_from}
 use Rattle.elias_fano_model.specs.Demand3.{step_of, closes, run_from, run, end_from, end_of, shown, Words, Begun}
 use Rattle.elias_fano_model.specs.Resume.{unclosed, Left, ByTheBookFrom, Unbroken, Resume}
-use Rattle.elias_fano_model.proofs.Book.{taken, taken_after, fits_none, after-fits, every, every_from, end_is, shown_from_lem}
+use Rattle.elias_fano_model.proofs.Book.{taken, taken_after, fits_none, after_fits, every, every_from, end_is, shown_from_lem}
 
 -- ---- calls after others
 
@@ -65,17 +65,17 @@ module _ (u n : ℕ) (lent : List ℕ) (begun : Begun u n lent) where
   leaves_from T (push t ∷ xs) s l h =
       let S = after u n lent T t in
       let a = answer_to u n lent T t in
-      leaves_from S xs (open_book u n lent a S) (record { fits = after-fits u n lent begun T t l.fits; builder_is = refl; words_is = refl }) (and_true (not (closes a)) (unclosed (book_from u n lent S xs)) h).1
+      leaves_from S xs (open_book u n lent a S) (record { fits = after_fits u n lent begun T t l.fits; builder_is = refl; words_is = refl }) (and_true (not (closes a)) (unclosed (book_from u n lent S xs)) h).1
   leaves_from T (build c ∷ xs) s l h =
       leaves_build T c xs s (λ g. leaves_from T xs (open_book u n lent (refused 3) T) (record { fits = l.fits; builder_is = refl; words_is = refl }) g) (too_long u n lent c T) h
 
   module _ (xs : List Call) (h : unclosed (run u n lent xs) ≡ true) where
-    unclosed-book : unclosed (book_from u n lent [] xs) ≡ true
+    unclosed_book : unclosed (book_from u n lent [] xs) ≡ true
     unfolding book
-    unclosed-book = sym (ap unclosed (every u n lent begun xs)) ∙ h
+    unclosed_book = sym (ap unclosed (every u n lent begun xs)) ∙ h
 
     leaves : Leaves (times_from u n lent [] xs) (end_of u n lent xs)
-    leaves = subst⁻¹ (Leaves (times_from u n lent [] xs)) (end_is u n lent begun xs) (leaves_from [] xs (open_book u n lent done []) (record { fits = fits_none u n lent begun; builder_is = refl; words_is = refl }) unclosed-book)
+    leaves = subst⁻¹ (Leaves (times_from u n lent [] xs)) (end_is u n lent begun xs) (leaves_from [] xs (open_book u n lent done []) (record { fits = fits_none u n lent begun; builder_is = refl; words_is = refl }) unclosed_book)
 
 -- ---- a list by its pushes
 
@@ -190,7 +190,7 @@ module _ (b : Builder) (w : List ℕ) (small : b.universe < 2 ^ 64) (words : Wor
         calls = xs;
         begun = begun;
         unfinished = going;
-        builder-left = l.builder_is ∙ ap (numbers u n w) f.times_are ∙ sym by_numbers;
+        builder_left = l.builder_is ∙ ap (numbers u n w) f.times_are ∙ sym by_numbers;
         words_left = ap (take (start_len u n)) (l.words_is ∙ ap (open_words u n w) f.times_are ∙ sym by_words);
       }
 
@@ -205,12 +205,12 @@ unbroken u n lent calls begun h =
     record {
       taken = λ w words e. subst⁻¹ (λ (b : Builder). ((resume_of b w).answer ≡ done) × (held_times b w ≡ T)) l.builder_is
           (is_taken u n lent begun w words T l.fits (e ∙ ap (take (start_len u n)) l.words_is));
-      same-run = λ later. ap (λ (r : List Made). N ∷ r) (runs_on later N calls (and_true (not (closes N.answer)) (unclosed (run_from N.builder N.words calls)) h).1);
+      same_run = λ later. ap (λ (r : List Made). N ∷ r) (runs_on later N calls (and_true (not (closes N.answer)) (unclosed (run_from N.builder N.words calls)) h).1);
     }
 
 taken_left : (b : Builder) (w : List ℕ) → Words w → Left b w → (resume_of b w).answer ≡ done
 taken_left b w words l =
-    subst (λ (x : Builder). (resume_of x w).answer ≡ done) l.builder-left
+    subst (λ (x : Builder). (resume_of x w).answer ≡ done) l.builder_left
     ((unbroken l.u l.n l.lent l.calls l.begun l.unfinished).taken w words (sym l.words_left)).0
 
 pub resume : Resume

@@ -23,7 +23,7 @@ pub record Left (b : Builder) (w : List ℕ) : Type 0 where
   pub calls : List Call
   pub begun : Begun u n lent
   pub unfinished : unclosed (run u n lent calls) ≡ true
-  pub builder-left : (end_of u n lent calls).builder ≡ b
+  pub builder_left : (end_of u n lent calls).builder ≡ b
   pub words_left : take (start_len u n) (end_of u n lent calls).words ≡ take (start_len u n) w
 
 -- demand 3's third sentence from there on: answer, builder and every word are those of the book that holds the times that the words hold; and where a build was accepted,
@@ -40,7 +40,7 @@ pub record Unbroken (u n : ℕ) (lent : List ℕ) (calls : List Call) : Type 0 w
   pub taken : (w : List ℕ) → Words w → take (start_len u n) w ≡ take (start_len u n) (end_of u n lent calls).words
       → ((resume_of (end_of u n lent calls).builder w).answer ≡ done) × (held_times (end_of u n lent calls).builder w ≡ times_from u n lent [] calls)
   -- with all words: what comes after is what comes after without a cut
-  pub same-run : (later : List Call) → run u n lent (calls ++ later) ≡ run u n lent calls ++ run_from (end_of u n lent calls).builder (end_of u n lent calls).words later
+  pub same_run : (later : List Call) → run u n lent (calls ++ later) ≡ run u n lent calls ++ run_from (end_of u n lent calls).builder (end_of u n lent calls).words later
 
 pub record Resume : Type 0 where
   pub exactly : (b : Builder) (w : List ℕ) → b.universe < 2 ^ 64 → Words w → ((resume_of b w).answer ≡ done) ↔ Left b w

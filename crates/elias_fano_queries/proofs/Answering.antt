@@ -148,11 +148,11 @@ module _ (i : List ℕ) (ok : accepted i ≡ true) (p : Parts) (ep : p ≡ parts
     count_is : below (suc (t - 1)) T ≡ k
     count_is = let d : suc (t - 1) ≡ t = omega (arith, some) in ap (λ (w : ℕ). below w T) d ∙ sym ek
 
-    pub last-below_none : k ≡ 0 → none ≡ greatest (t - 1) T
-    last-below_none z = sym (below-law.greatest_none u (t - 1) T (opened.rises i ok) (count_is ∙ z))
+    pub last_below_none : k ≡ 0 → none ≡ greatest (t - 1) T
+    last_below_none z = sym (below-law.greatest_none u (t - 1) T (opened.rises i ok) (count_is ∙ z))
 
-    pub last-below_some : (k ≡ 0 → ⊥) → (x : ℕ) → x ≡ get_or T (k - 1) 0 → value x ≡ greatest (t - 1) T
-    last-below_some z x ex =
+    pub last_below_some : (k ≡ 0 → ⊥) → (x : ℕ) → x ≡ get_or T (k - 1) 0 → value x ≡ greatest (t - 1) T
+    last_below_some z x ex =
         let d : k ≡ suc (k - 1) = omega (arith, z) in
         ap value ex ∙ sym (below-law.greatest_some u (t - 1) T (opened.rises i ok) (k - 1) (count_is ∙ d))
 

@@ -59,14 +59,14 @@ module _ (i : List ℕ) (p : Parts) (k x : ℕ) (b : Behind i p k x) where
   abbrev W : List ℕ
   W = high_part i p
 
-  over-one : bit_over true W ≡ bit_at W
+  over_one : bit_over true W ≡ bit_at W
   unfolding bit_over
-  over-one = refl
+  over_one = refl
 
   total : count (bit_at W) p.high_len ≡ p.num_pushed
   total =
       let o = b.opened in
-      ap (λ (f : ℕ → ℕ). count f p.high_len) (sym over-one)
+      ap (λ (f : ℕ → ℕ). count f p.high_len) (sym over_one)
       ∙ sym (standing.ones-count i p o.parts (found i o.ok).head (images.is_fit i o.ok).small (found i o.ok).bits)
 
   pub before-room : 0 < k → (x ≤ length W * 64) × (0 < count (bit_at W) x)
@@ -90,7 +90,7 @@ module _ (i : List ℕ) (p : Parts) (k x : ℕ) (b : Behind i p k x) where
         ok = o.ok;
         parts = o.parts;
         below = omega arith;
-        place = ap (λ (f : ℕ → ℕ). select f p.high_len (k - 1)) over-one ∙ select_at (bit_at W) p.high_len (k - 1) y (lt_of_lt_of_le w.within b.upto) w.one (omega arith);
+        place = ap (λ (f : ℕ → ℕ). select f p.high_len (k - 1)) over_one ∙ select_at (bit_at W) p.high_len (k - 1) y (lt_of_lt_of_le w.within b.upto) w.one (omega arith);
       }
 
   module _ (h : k < p.num_pushed) where
@@ -114,16 +114,16 @@ module _ (i : List ℕ) (p : Parts) (k x : ℕ) (b : Behind i p k x) where
         let g = here in
         record { start = omega arith; room = omega arith; few = omega arith; rule = rule }
 
-    over-before : count (bit_over true W) x ≡ k
-    over-before = ap (λ (f : ℕ → ℕ). count f x) over-one ∙ b.before
+    over_before : count (bit_over true W) x ≡ k
+    over_before = ap (λ (f : ℕ → ℕ). count f x) over_one ∙ b.before
 
     pub enough : count (bit_over true W) x < count (bit_over true W) ((p.low_at - 6) * 64)
     enough =
         let o = b.opened in
         let c = opened.part_room i o.ok p o.parts in
         let m = count_mono (bit_over true W) p.high_len ((p.low_at - 6) * 64) c in
-        let t = ap (λ (f : ℕ → ℕ). count f p.high_len) over-one ∙ total in
-        let a = over-before in
+        let t = ap (λ (f : ℕ → ℕ). count f p.high_len) over_one ∙ total in
+        let a = over_before in
         omega arith
 
     pub from_is : (y : ℕ) → select (bit_over true W) ((p.low_at - 6) * 64) (count (bit_over true W) x) ≡ At y → OneAt i p k y
@@ -136,5 +136,5 @@ module _ (i : List ℕ) (p : Parts) (k x : ℕ) (b : Behind i p k x) where
           ok = o.ok;
           parts = o.parts;
           below = h;
-          place = q ∙ sym (narrow_in (bit_over true W) (bit_over_le true W) p.high_len ((p.low_at - 6) * 64) k _ q (lt_of_lt_of_le l c)) ∙ ap (select (bit_over true W) ((p.low_at - 6) * 64)) (sym over-before) ∙ e;
+          place = q ∙ sym (narrow_in (bit_over true W) (bit_over_le true W) p.high_len ((p.low_at - 6) * 64) k _ q (lt_of_lt_of_le l c)) ∙ ap (select (bit_over true W) ((p.low_at - 6) * 64)) (sym over_before) ∙ e;
         }

@@ -37,8 +37,8 @@ module _ (f g : ℕ → ℕ) (n : ℕ) (places : (k : ℕ) → k < count f n →
 
 module _ (f g : ℕ → ℕ) (f-bits : (i : ℕ) → f i ≤ 1) (g-bits : (i : ℕ) → g i ≤ 1) (n : ℕ) where
   -- they have as many ones, each in the same place
-  pub same-run : count f n ≡ count g n → ((k : ℕ) → k < count f n → select f n k ≡ select g n k) → (i : ℕ) → i < n → f i ≡ g i
-  same-run e places i h = go (ℕ_discrete (f i) 1)
+  pub same_run : count f n ≡ count g n → ((k : ℕ) → k < count f n → select f n k ≡ select g n k) → (i : ℕ) → i < n → f i ≡ g i
+  same_run e places i h = go (ℕ_discrete (f i) 1)
     where
       back : (k : ℕ) → k < count g n → select g n k ≡ select f n k
       back k l = sym (places k (omega arith))

@@ -39,7 +39,7 @@ use Rattle.broadword.proofs.Truth.{and_true, true_and, flag_le}
 use Rattle.elias_fano_words.proofs.Encode.{low_lt}
 use Rattle.elias_fano_words.proofs.Ones.{place_of}
 use Rattle.elias_fano_words.proofs.Decode.{clear-number, low_number_lem, low_words_lem, select_high, count_high, clear_high, length_high, length-words, time_of, times_of}
-use Rattle.elias_fano_words.proofs.Bitwise.{count_suc, count-one, same-run, same_bits, fit-left, fit_right}
+use Rattle.elias_fano_words.proofs.Bitwise.{count_suc, count-one, same_run, same_bits, fit-left, fit_right}
 
 -- ---- the words of times in order are in order
 
@@ -199,7 +199,7 @@ module _ (strict : Bool) (u n m : ℕ) (high low : List ℕ) (few : m ≤ n) (o 
 
   high_bits : (i : ℕ) → Dec (i < H) → ones i ≡ bit_at (high_words u n times) i
   high_bits i (yes h) =
-      same-run ones (bit_at (high_words u n times)) (bit_at_le high) (bit_at_le (high_words u n times)) H
+      same_run ones (bit_at (high_words u n times)) (bit_at_le high) (bit_at_le (high_words u n times)) H
       (o.ones ∙ sym length-times ∙ sym (count_high u n times times_rise few_times))
       (λ k g.
       let q : k < m = lt_of_lt_of_le g (le_of_eq o.ones) in

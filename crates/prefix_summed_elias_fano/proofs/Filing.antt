@@ -64,9 +64,9 @@ module _ (A : List ℕ) (ok : Summable A) where
     pub limit_ready : (s.start_len < 2 ^ 32) × (s.high_len < 2 ^ 32) × (length A < 2 ^ 32)
     limit_ready = listing.limit_ready u n T fits many false s es
 
-    pub limit-room : (x k : ℕ) → ((v : ℕ) → s ≡ sizes_of v (length A) → x ≡ limit v (length A) false) → x ≤ k → true ≡ leb (length (sums_image A)) k
+    pub limit_room : (x k : ℕ) → ((v : ℕ) → s ≡ sizes_of v (length A) → x ≡ limit v (length A) false) → x ≤ k → true ≡ leb (length (sums_image A)) k
     unfolding sums_image
-    limit-room x k e = listing.limit-room u n T fits many false s es x k (e u es)
+    limit_room x k e = listing.limit_room u n T fits many false s es x k (e u es)
 
     module _ (o : ℕ) (eo : o ≡ before (high_positions (suc (sum A)) (length A) true (sums A)) (blocks (high_positions (suc (sum A)) (length A) true (sums A)))) where
       pub len_ready : (s.low_at < 2 ^ 32) × (length A * s.low_len < 2 ^ 32) × (s.high_len < 2 ^ 32) × (length A ≤ s.high_len) × (o < 2 ^ 32) × (0 < 2 ^ 32)

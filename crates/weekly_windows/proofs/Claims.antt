@@ -77,8 +77,8 @@ unfolding count_in below
 week_all s e [] h = refl
 week_all s e (t ∷ T) h = omega (arith, week-one s e t h, week_all s e T h)
 
-whole-week : (s e : ℕ) (T : List ℕ) → count_in (0 ∷ week ∷ []) s e T ≡ below e T - below s T
-whole-week s e T = go (dec_le s e)
+whole_week : (s e : ℕ) (T : List ℕ) → count_in (0 ∷ week ∷ []) s e T ≡ below e T - below s T
+whole_week s e T = go (dec_le s e)
   where
     go : Dec (s ≤ e) → count_in (0 ∷ week ∷ []) s e T ≡ below e T - below s T
     go (yes h) = omega (arith, week_all s e T h)
@@ -103,4 +103,4 @@ no_windows s e [] = refl
 no_windows s e (t ∷ T) = ap₂ (λ (b : Bool) (n : ℕ). flag b + n) (and-false (between s e t)) (no_windows s e T)
 
 pub claims : Claims
-claims = record { adds = adds; answers_add = answers_add; whole-week = whole-week; no_span = counting.count_no_span; no_windows = no_windows; of_list = of_list }
+claims = record { adds = adds; answers_add = answers_add; whole_week = whole_week; no_span = counting.count_no_span; no_windows = no_windows; of_list = of_list }

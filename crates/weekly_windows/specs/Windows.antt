@@ -55,7 +55,7 @@ pub record Claims : Type 0 where
   -- so do the answers
   pub answers_add : (i ws : List ℕ) (s m e x y : ℕ) → s ≤ m → m ≤ e → count_of i ws s m ≡ value x → count_of i ws m e ≡ value y → count_of i ws s e ≡ value (x + y)
   -- the whole week as a window counts every time of the span: those below e, less those below s
-  pub whole-week : (s e : ℕ) (T : List ℕ) → count_in (0 ∷ week ∷ []) s e T ≡ below e T - below s T
+  pub whole_week : (s e : ℕ) (T : List ℕ) → count_in (0 ∷ week ∷ []) s e T ≡ below e T - below s T
   -- a span that is empty or reversed counts none, and so do no windows
   pub no_span : (ws : List ℕ) (s e : ℕ) (T : List ℕ) → e ≤ s → count_in ws s e T ≡ 0
   pub no_windows : (s e : ℕ) (T : List ℕ) → count_in [] s e T ≡ 0

@@ -83,18 +83,18 @@ gap_at x [] j h = absurd (omega arith)
 gap_at x (t ∷ T) zero h = refl
 gap_at x (t ∷ T) (suc j) h = gap_at t T j (omega arith)
 
-gap-least : (T : List ℕ) (j : ℕ) → suc j < length T → (summary_of T).gap ≤ get_or T (suc j) 0 - get_or T j 0
+gap_least : (T : List ℕ) (j : ℕ) → suc j < length T → (summary_of T).gap ≤ get_or T (suc j) 0 - get_or T j 0
 unfolding summary_of gaps gaps_from least
-gap-least [] j h = absurd (omega arith)
-gap-least (t ∷ []) j h = absurd (omega arith)
-gap-least (t ∷ r ∷ T) zero h = least-upto (r - t) (gaps_from r T)
-gap-least (t ∷ r ∷ T) (suc j) h = subst (λ (y : ℕ). least_from (r - t) (gaps_from r T) ≤ y) (gap_at r T j (omega arith)) (least-each (r - t) (gaps_from r T) j (let e = length-gaps r T in omega arith))
+gap_least [] j h = absurd (omega arith)
+gap_least (t ∷ []) j h = absurd (omega arith)
+gap_least (t ∷ r ∷ T) zero h = least-upto (r - t) (gaps_from r T)
+gap_least (t ∷ r ∷ T) (suc j) h = subst (λ (y : ℕ). least_from (r - t) (gaps_from r T) ≤ y) (gap_at r T j (omega arith)) (least-each (r - t) (gaps_from r T) j (let e = length-gaps r T in omega arith))
 
-gap-met : (T : List ℕ) → 1 < length T → (j : ℕ) × (suc j < length T) × ((summary_of T).gap ≡ get_or T (suc j) 0 - get_or T j 0)
+gap_met : (T : List ℕ) → 1 < length T → (j : ℕ) × (suc j < length T) × ((summary_of T).gap ≡ get_or T (suc j) 0 - get_or T j 0)
 unfolding summary_of gaps gaps_from least
-gap-met [] h = absurd (omega arith)
-gap-met (t ∷ []) h = absurd (omega arith)
-gap-met (t ∷ r ∷ T) h = let m = least-met (r - t) (gaps_from r T) in let l : m.0 < length (r ∷ T) = let e = length-gaps r T in omega (arith, m.1) in (m.0, omega arith, m.2 ∙ gap_at t (r ∷ T) m.0 l)
+gap_met [] h = absurd (omega arith)
+gap_met (t ∷ []) h = absurd (omega arith)
+gap_met (t ∷ r ∷ T) h = let m = least-met (r - t) (gaps_from r T) in let l : m.0 < length (r ∷ T) = let e = length-gaps r T in omega (arith, m.1) in (m.0, omega arith, m.2 ∙ gap_at t (r ∷ T) m.0 l)
 
 -- ---- the image of a list
 
@@ -108,4 +108,4 @@ of_list u n c T ss out h =
 -- ---- all of it
 
 pub claims : Claims
-claims = record { each = each; adds = adds; no_span = no_span; gap-least = gap-least; gap-met = gap-met; of_list = of_list }
+claims = record { each = each; adds = adds; no_span = no_span; gap_least = gap_least; gap_met = gap_met; of_list = of_list }

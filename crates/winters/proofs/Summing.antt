@@ -63,7 +63,7 @@ pub record SumsOn (i : List ℕ) (p : Parts) (first e k : ℕ) (w : Walk) (last 
   pub from : k ≤ w.number
   pub few : w.number - k ≤ p.num_pushed
   pub above_first : NoneBelow first (drop w.number (times i))
-  pub above-last : NoneBelow last (drop w.number (times i))
+  pub above_last : NoneBelow last (drop w.number (times i))
   pub counts : w.number - k + length (after i e w.number) ≡ length (after i e k)
   pub lasts : last_from last (after i e w.number) ≡ last_from first (after i e k)
   pub gaps : least_from gap (gaps_from last (after i e w.number)) ≡ least_from e (gaps_from first (after i e k))
@@ -95,7 +95,7 @@ module _ (i : List ℕ) (ok : accepted i ≡ true) (p : Parts) (ep : p ≡ parts
 
   module _ (first e : ℕ) where
     pub sums_begin : (w : Walk) → WalkOver i p w → NoneBelow first (drop w.number (times i)) → SumsOn i p first e w.number w first e
-    sums_begin w h n = record { walking = h; from = omega arith; few = omega arith; above_first = n; above-last = n; counts = omega arith; lasts = refl; gaps = refl }
+    sums_begin w h n = record { walking = h; from = omega arith; few = omega arith; above_first = n; above_last = n; counts = omega arith; lasts = refl; gaps = refl }
 
     module _ (k : ℕ) (w : Walk) (last gap : ℕ) (g : SumsOn i p first e k w last gap) where
       pub sums_few : w.number - k ≤ 16777216
@@ -121,7 +121,7 @@ module _ (i : List ℕ) (ok : accepted i ≡ true) (p : Parts) (ep : p ≡ parts
             subst (λ (v : ℕ). y ≤ v) (get_or-drop w.number (times i) 0 0 ∙ ap (λ (j : ℕ). get_or (times i) j 0) z ∙ sym ex) (h 0 (omega (arith, many)))
 
         pub next_upto : (first ≤ x) × (last ≤ x)
-        next_upto = (next_above first g.above_first, next_above last g.above-last)
+        next_upto = (next_above first g.above_first, next_above last g.above_last)
 
         module _ (h : x < e) (w' : Walk) (o : WalkOver i p w') (n : w'.number ≡ suc w.number) where
           next : after i e w.number ≡ x ∷ after i e w'.number
@@ -135,7 +135,7 @@ module _ (i : List ℕ) (ok : accepted i ≡ true) (p : Parts) (ep : p ≡ parts
                 from = omega arith;
                 few = omega arith;
                 above_first = λ j b. le_trans next_upto.0 (none_below w.number x ex w'.number (omega arith) j b);
-                above-last = none_below w.number x ex w'.number (omega arith);
+                above_last = none_below w.number x ex w'.number (omega arith);
                 counts = let c = g.counts in let a = ap length next in omega arith;
                 lasts = ap (last_from last) (sym next) ∙ g.lasts;
                 gaps = ap (λ (y : ℕ). least_from y (gaps_from x (after i e w'.number))) q ∙ sym (gap_next gap last x (after i e w'.number)) ∙ ap (λ (S : List ℕ). least_from gap (gaps_from last S)) (sym next) ∙ g.gaps;

@@ -66,8 +66,8 @@ pub record Claims : Type 0 where
   -- a span that is empty or reversed has no time
   pub no_span : (s e : ℕ) (T : List ℕ) → e ≤ s → words_of (summary_of (in_span s e T)) ≡ 0 ∷ 0 ∷ 0 ∷ 0 ∷ []
   -- no two neighbours are closer than the gap that is told
-  pub gap-least : (T : List ℕ) (j : ℕ) → suc j < length T → (summary_of T).gap ≤ get_or T (suc j) 0 - get_or T j 0
+  pub gap_least : (T : List ℕ) (j : ℕ) → suc j < length T → (summary_of T).gap ≤ get_or T (suc j) 0 - get_or T j 0
   -- and of two times or more some neighbours have it
-  pub gap-met : (T : List ℕ) → 1 < length T → (j : ℕ) × (suc j < length T) × ((summary_of T).gap ≡ get_or T (suc j) 0 - get_or T j 0)
+  pub gap_met : (T : List ℕ) → 1 < length T → (j : ℕ) × (suc j < length T) × ((summary_of T).gap ≡ get_or T (suc j) 0 - get_or T j 0)
   -- of the image of a list it is that list that is compared
   pub of_list : (u n : ℕ) (c : Bool) (T ss out : List ℕ) → fit u n T ≡ true → compare_of (image u n c T) ss out ≡ compare_answer T ss out

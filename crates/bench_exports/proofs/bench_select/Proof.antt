@@ -4,10 +4,10 @@ use Rattle.bench_exports.proofs.bench_select.Statement.{statement}
 use Rattle.bench_exports.proofs.bench_select.Tie as tie
 
 abbrev invariant_loop : tie.invariant_loop
-invariant_loop words len over-one index positions ks table sum₀ i₀ sum i = i ≤ length ks
+invariant_loop words len over_one index positions ks table sum₀ i₀ sum i = i ≤ length ks
 
 abbrev decreases_loop : tie.decreases_loop
-decreases_loop words len over-one index positions ks table sum₀ i₀ sum i = length ks - i
+decreases_loop words len over_one index positions ks table sum₀ i₀ sum i = length ks - i
 
 select_in_byte_table_requires : tie.Need-select-in-byte-table-requires invariant_loop decreases_loop
 select_in_byte_table_requires c κs = search rules

@@ -24,19 +24,17 @@ total-n-requires c =
     let a = c.args in
     building.sizes_lt (positions a.over_one a.words.now a.len) c.sizes_of-s.result c.sizes_of-s.ensures (building.positions_lt a.over_one a.words.now a.len c.if-len-ge-MAX_LEN.false)
 
--- the number of words
-total : (c : goal.After-total-n) → c.total-n.result ≡ length (index_words (positions c.args.over_one c.args.words.now c.args.len))
-total c =
-    let a = c.args in
-    c.total-n.ensures ∙ building.index_length (positions a.over_one a.words.now a.len) c.sizes_of-s.result c.sizes_of-s.ensures
-
 pub returns-then-out-n : goal.returns-then-out-n
 returns-then-out-n c =
+    let total : c.total-n.result ≡ length (index_words (positions c.args.over_one c.args.words.now c.args.len)) = let a = c.args in
+    c.total-n.ensures ∙ building.index_length (positions a.over_one a.words.now a.len) c.sizes_of-s.result c.sizes_of-s.ensures in
     let a = c.args in
-    sym (cases.build_3 _ _ _ _ (sym c.is_invalid.ensures ∙ c.if-is_invalid.false) c.if-len-ge-MAX_LEN.false (subst (λ (n : ℕ). length a.out-1.now < n) (total c.before) c.if-out-n.true))
+    sym (cases.build_3 _ _ _ _ (sym c.is_invalid.ensures ∙ c.if-is_invalid.false) c.if-len-ge-MAX_LEN.false (subst (λ (n : ℕ). length a.out.now < n) (total) c.if-out-n.true))
 
 pub write-requires : goal.write-requires
 write-requires c =
+    let total : c.total-n.result ≡ length (index_words (positions c.args.over_one c.args.words.now c.args.len)) = let a = c.args in
+    c.total-n.ensures ∙ building.index_length (positions a.over_one a.words.now a.len) c.sizes_of-s.result c.sizes_of-s.ensures in
     let a = c.args in
     record {
       positions = c.sizes_of-s.ensures.positions;
@@ -44,11 +42,13 @@ write-requires c =
       lanes = c.sizes_of-s.ensures.lanes;
       words = (valid _ _ (sym c.is_invalid.ensures ∙ c.if-is_invalid.false)).room;
       few = c.if-len-ge-MAX_LEN.false;
-      room = subst (λ (n : ℕ). n ≤ length a.out-1.now) (total c.before.before) c.if-out-n.false;
+      room = subst (λ (n : ℕ). n ≤ length a.out.now) (total) c.if-out-n.false;
     }
 
 pub returns : goal.returns
 returns c =
+    let total : c.total-n.result ≡ length (index_words (positions c.args.over_one c.args.words.now c.args.len)) = let a = c.args in
+    c.total-n.ensures ∙ building.index_length (positions a.over_one a.words.now a.len) c.sizes_of-s.result c.sizes_of-s.ensures in
     let a = c.args in
     cases.build_ok _ _ _ _ (sym c.is_invalid.ensures ∙ c.if-is_invalid.false) c.if-len-ge-MAX_LEN.false
-    (subst (λ (n : ℕ). n ≤ length a.out-1.now) (total c.before.before.before.before.before) c.if-out-n.false) _ _ (total c.before.before.before.before.before) c.write.ensures
+    (subst (λ (n : ℕ). n ≤ length a.out.now) (total) c.if-out-n.false) _ _ (total) c.write.ensures

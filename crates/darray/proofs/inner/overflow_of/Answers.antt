@@ -27,42 +27,37 @@ loop-j-init c =
     let p = c.requires in
     (omega (arith, p.4.there, p.4.counted, p.3, count_mono (bit_over a.over_one a.words.now) (a.len / 64 * 64) a.len (omega arith)), p.4.spilled, p.4.ahead)
 
--- the block's first position is there
-there : (c : goal.In-loop-j) → 1024 * c.loop-j.j < c.args.n
-there c = omega (arith, c.loop-j-test.true)
-
 pub ends-s-requires : goal.ends-s-requires
 ends-s-requires c =
+    let there : 1024 * c.loop-j.j < c.args.n = omega (arith, c.loop-j-test.true) in
     let a = c.args in
     let p = c.requires in
-    let h = there c in
+    let h = there in
     (p.0, c.loop-j.invariant.2, block.inside a.over_one a.words.now a.len a.n p.3 _ _ (omega (arith, p.1)) p.2 (omega arith), h)
 
 pub block_size-requires : goal.block_size-requires
-block_size-requires c = omega (arith, there c.before)
+block_size-requires c =
+    let there : 1024 * c.loop-j.j < c.args.n = omega (arith, c.loop-j-test.true) in
+    omega (arith, there)
 
 pub spilled-overflow-requires : goal.spilled-overflow-requires
 spilled-overflow-requires c =
-    block.span_rises c.args.over_one c.args.words.now c.args.len c.args.n c.requires.3 c.loop-j.j c.ends-s.result (there c.before.before) c.ends-s.ensures
+    let there : 1024 * c.loop-j.j < c.args.n = omega (arith, c.loop-j-test.true) in
+    block.span_rises c.args.over_one c.args.words.now c.args.len c.args.n c.requires.3 c.loop-j.j c.ends-s.result (there) c.ends-s.ensures
 
-next_before : (c : goal.After-spilled-overflow)
-    → c.loop-j.overflow + c.spilled-overflow.result
-    ≡ before (positions c.args.over_one c.args.words.now c.args.len)
-    (c.loop-j.j + 1)
-next_before c =
-    let a = c.args in
+pub overflow_add-overflow : goal.overflow_add-overflow
+overflow_add-overflow c =
+    let there : 1024 * c.loop-j.j < c.args.n = omega (arith, c.loop-j-test.true) in
+    let next_before : c.loop-j.overflow + c.spilled-overflow.result ≡ before (positions c.args.over_one c.args.words.now c.args.len) (c.loop-j.j + 1) = let a = c.args in
     let l = c.loop-j in
     let P = positions a.over_one a.words.now a.len in
     let r = c.ends-s.result in
     let e : c.spilled-overflow.result ≡ spill P l.j =
     c.spilled-overflow.ensures ∙ ap (λ (z : ℕ). cond (leb 65536 (r.last - r.first)) z 0) c.block_size.ensures
-    ∙ block.spill_is a.over_one a.words.now a.len a.n c.requires.3 l.j r (there c.before.before.before) c.ends-s.ensures in
-    ap₂ (λ (x y : ℕ). x + y) l.invariant.1 e ∙ sym (ap (before P) (add-one l.j) ∙ index.before_next P l.j)
-
-pub overflow_add-overflow : goal.overflow_add-overflow
-overflow_add-overflow c =
+    ∙ block.spill_is a.over_one a.words.now a.len a.n c.requires.3 l.j r (there) c.ends-s.ensures in
+    ap₂ (λ (x y : ℕ). x + y) l.invariant.1 e ∙ sym (ap (before P) (add-one l.j) ∙ index.before_next P l.j) in
     let a = c.args in
-    omega (arith, next_before c, index.before_le (positions a.over_one a.words.now a.len) (c.loop-j.j + 1), block.length_is a.over_one a.words.now a.len a.n c.requires.3, c.ranges)
+    omega (arith, next_before, index.before_le (positions a.over_one a.words.now a.len) (c.loop-j.j + 1), block.length_is a.over_one a.words.now a.len a.n c.requires.3, c.ranges)
 
 pub overflow_add-j : goal.overflow_add-j
 overflow_add-j c = omega (arith, c.loop-j-test.true)
@@ -71,9 +66,19 @@ pub loop-j-smaller : goal.loop-j-smaller
 loop-j-smaller c = omega (arith, c.loop-j-test.true)
 
 pub loop-j-preserved : goal.loop-j-preserved
-loop-j-preserved c = (
+loop-j-preserved c =
+    let there : 1024 * c.loop-j.j < c.args.n = omega (arith, c.loop-j-test.true) in
+    let next_before : c.loop-j.overflow + c.spilled-overflow.result ≡ before (positions c.args.over_one c.args.words.now c.args.len) (c.loop-j.j + 1) = let a = c.args in
+    let l = c.loop-j in
+    let P = positions a.over_one a.words.now a.len in
+    let r = c.ends-s.result in
+    let e : c.spilled-overflow.result ≡ spill P l.j =
+    c.spilled-overflow.ensures ∙ ap (λ (z : ℕ). cond (leb 65536 (r.last - r.first)) z 0) c.block_size.ensures
+    ∙ block.spill_is a.over_one a.words.now a.len a.n c.requires.3 l.j r (there) c.ends-s.ensures in
+    ap₂ (λ (x y : ℕ). x + y) l.invariant.1 e ∙ sym (ap (before P) (add-one l.j) ∙ index.before_next P l.j) in
+    (
   omega (arith, c.loop-j-test.true),
-  next_before c.before,
+  next_before,
   block.ahead_le _ _ _ _ (omega arith) c.ends-s.ensures.next,
 )
 

@@ -12,29 +12,27 @@ use Rattle.darray.specs.Sizes.{Sized}
 use Rattle.darray.proofs.Building as building
 use Rattle.darray.proofs.inner.sizes_of.Goals as goal
 
--- the whole words' positions and those of the tail
-all : (c : goal.After-struct_known-1)
-    → c.full_blocks-full.result.positions + c.tail_positions.result
-    ≡ count (bit_over c.args.over_one c.args.words.now) c.args.len
-all c = ap (λ (n : ℕ). n + c.tail_positions.result) c.full_blocks-full.ensures.counted ∙ c.tail_positions.ensures
-
-few : (c : goal.After-struct_known-1) → c.full_blocks-full.result.positions + c.tail_positions.result < 2 ^ 63
-few c =
-    omega (arith, all c, scan.count_few c.args.over_one c.args.words.now c.args.len, c.requires.1)
-
 pub overflow_add-n : goal.overflow_add-n
-overflow_add-n c = omega (arith, few c)
+overflow_add-n c =
+    let all : c.full_blocks-full.result.positions + c.tail_positions.result ≡ count (bit_over c.args.over_one c.args.words.now) c.args.len = ap (λ (n : ℕ). n + c.tail_positions.result) c.full_blocks-full.ensures.counted ∙ c.tail_positions.ensures in
+    let few : c.full_blocks-full.result.positions + c.tail_positions.result < 2 ^ 63 = omega (arith, all, scan.count_few c.args.over_one c.args.words.now c.args.len, c.requires.1) in
+    omega (arith, few)
 
 pub overflow_of-requires : goal.overflow_of-requires
 overflow_of-requires c =
-    (c.select_in_byte_table-table.ensures, c.requires.0, c.requires.1, all c.before, c.full_blocks-full.ensures)
+    let all : c.full_blocks-full.result.positions + c.tail_positions.result ≡ count (bit_over c.args.over_one c.args.words.now) c.args.len = ap (λ (n : ℕ). n + c.tail_positions.result) c.full_blocks-full.ensures.counted ∙ c.tail_positions.ensures in
+    (c.select_in_byte_table-table.ensures, c.requires.0, c.requires.1, all, c.full_blocks-full.ensures)
 
 pub sizes_by-requires : goal.sizes_by-requires
-sizes_by-requires c = few c.before.before
+sizes_by-requires c =
+    let all : c.full_blocks-full.result.positions + c.tail_positions.result ≡ count (bit_over c.args.over_one c.args.words.now) c.args.len = ap (λ (n : ℕ). n + c.tail_positions.result) c.full_blocks-full.ensures.counted ∙ c.tail_positions.ensures in
+    let few : c.full_blocks-full.result.positions + c.tail_positions.result < 2 ^ 63 = omega (arith, all, scan.count_few c.args.over_one c.args.words.now c.args.len, c.requires.1) in
+    few
 
 pub returns : goal.returns
 returns c =
+    let all : c.full_blocks-full.result.positions + c.tail_positions.result ≡ count (bit_over c.args.over_one c.args.words.now) c.args.len = ap (λ (n : ℕ). n + c.tail_positions.result) c.full_blocks-full.ensures.counted ∙ c.tail_positions.ensures in
     let a = c.args in
     let P = positions a.over_one a.words.now a.len in
-    let e = block.length_is a.over_one a.words.now a.len _ (all c.before.before.before) in
+    let e = block.length_is a.over_one a.words.now a.len _ (all) in
     subst⁻¹ (Sized P) c.sizes_by.ensures (building.by_sized P _ _ e c.overflow_of.ensures)

@@ -13,15 +13,15 @@ use Rattle.darray.proofs.inner.write_within.Goals as goal
 pub sizes_by-requires : goal.sizes_by-requires
 sizes_by-requires c =
     let a = c.args in
-    omega (arith, c.requires.2.positions, positions_lt a.over_one (take (words_for a.len) (drop a.first a.buf-1.now)) a.len c.requires.2.few)
+    omega (arith, c.requires.2.positions, positions_lt a.over_one (take (words_for a.len) (drop a.first a.buf.now)) a.len c.requires.2.few)
 
 pub write_blocks_within-requires : goal.write_blocks_within-requires
 write_blocks_within-requires c =
     let a = c.args in
-    let w = take (words_for a.len) (drop a.first a.buf-1.now) in (
+    let w = take (words_for a.len) (drop a.first a.buf.now) in (
       c.select_in_byte_table-table.ensures,
       c.debruijn64_table-lowest.ensures,
       c.requires.0,
       c.requires.1,
-      subst⁻¹ (λ z. Writable (positions a.over_one w a.len) a.len (length w) z (length a.buf-1.now - a.at)) c.sizes_by.ensures c.requires.2,
+      subst⁻¹ (λ z. Writable (positions a.over_one w a.len) a.len (length w) z (length a.buf.now - a.at)) c.sizes_by.ensures c.requires.2,
     )

@@ -29,7 +29,7 @@ returns c =
     matching.decides_by {A = Reads a.index.now (over_at a.at a.s a.over) (λ i. get_or a.a.now i 0) c.spill.result} c.positions_match.result c.positions_match.ensures
     (λ r. record {
       entry = c.if-index-at.false ∙ flush.entry_is a.a.now a.n a.over c.entry.result c.overflows-wide.result c.overflows-wide.ensures c.entry.ensures;
-      lane-words = c.lanes_match.ensures.yes (not-false _ c.if-not-lanes_match.false-raw);
+      lane_words = c.lanes_match.ensures.yes (not-false _ c.if-not-lanes_match.false-raw);
       spilled = subst (Reads a.index.now (over_at a.at a.s a.over) (λ i. get_or a.a.now i 0)) c.spill.ensures r;
     })
     (λ m. subst (Reads a.index.now (over_at a.at a.s a.over) (λ i. get_or a.a.now i 0)) (sym c.spill.ensures) m.spilled)

@@ -15,9 +15,9 @@ block_matches-requires c =
         some = p.some;
         few = p.few;
         rising = p.rising;
-        entry-room = omega (arith, p.entry_room, p.long);
-        lanes-room = omega (arith, p.lanes_room, p.long);
-        over-room = omega (arith, p.spilled, p.long, c.spill-more.ensures);
+        entry_room = omega (arith, p.entry_room, p.long);
+        lanes_room = omega (arith, p.lanes_room, p.long);
+        over_room = omega (arith, p.spilled, p.long, c.spill-more.ensures);
       },
     )
 

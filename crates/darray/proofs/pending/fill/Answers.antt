@@ -33,37 +33,38 @@ loop-c-init c =
     let w = first_is a.over_one a.words.now (λ i. (c.shared_slice_known-1.given i).fits) a.first c.word_over.result c.word_over.ensures in
     (search rules, c.requires.0, subst (Left a.over_one a.words.now _ _) e (taking.left-start a.over_one a.words.now (λ i. (c.shared_slice_known-1.given i).fits) a.k a.first _ c.requires.3 w), λ i h. absurd (not-suc-le-zero h))
 
--- the place that `lsb_by` gives is that of the lowest one that is left
-lowest : (c : goal.In-At) → select (bit c.loop-c.left) 64 0 ≡ At c.in-At.bit
-lowest c = sym c.lsb_by.ensures ∙ c.in-At.is
-
--- it is the next position
-next : (c : goal.In-At)
-    → Position (bit_over c.args.over_one c.args.words.now)
-    (c.args.k + c.loop-c.c) (c.loop-c.word * 64 + c.in-At.bit)
-next c =
-    let a = c.args in
-    let l = c.loop-c in
-    taking.left_position a.over_one a.words.now (λ i. (c.shared_slice_known-1.given i).fits) l.word l.left (a.k + l.c) l.invariant.2 c.in-At.bit (sym (lowest c))
-
-next_lt : (c : goal.In-At) → c.loop-c.word * 64 + c.in-At.bit < 2 ^ 63
-next_lt c =
-    counts.position_lt _ _ _ _ (block.inside_le _ _ _ _ (omega (arith, c.loop-c-test.true)) c.requires.4) (next c)
-
 pub overflow_mul-a : goal.overflow_mul-a
-overflow_mul-a c = omega (arith, next_lt c)
+overflow_mul-a c =
+    let lowest : select (bit c.loop-c.left) 64 0 ≡ At c.in-At.bit = sym c.lsb_by.ensures ∙ c.in-At.is in
+    let next : Position (bit_over c.args.over_one c.args.words.now) (c.args.k + c.loop-c.c) (c.loop-c.word * 64 + c.in-At.bit) = let a = c.args in
+    let l = c.loop-c in
+    taking.left_position a.over_one a.words.now (λ i. (c.shared_slice_known-1.given i).fits) l.word l.left (a.k + l.c) l.invariant.2 c.in-At.bit (sym (lowest)) in
+    let next_lt : c.loop-c.word * 64 + c.in-At.bit < 2 ^ 63 = counts.position_lt _ _ _ _ (block.inside_le _ _ _ _ (omega (arith, c.loop-c-test.true)) c.requires.4) (next) in
+    omega (arith, next_lt)
 
 pub overflow_add-a : goal.overflow_add-a
-overflow_add-a c = omega (arith, next_lt c)
+overflow_add-a c =
+    let lowest : select (bit c.loop-c.left) 64 0 ≡ At c.in-At.bit = sym c.lsb_by.ensures ∙ c.in-At.is in
+    let next : Position (bit_over c.args.over_one c.args.words.now) (c.args.k + c.loop-c.c) (c.loop-c.word * 64 + c.in-At.bit) = let a = c.args in
+    let l = c.loop-c in
+    taking.left_position a.over_one a.words.now (λ i. (c.shared_slice_known-1.given i).fits) l.word l.left (a.k + l.c) l.invariant.2 c.in-At.bit (sym (lowest)) in
+    let next_lt : c.loop-c.word * 64 + c.in-At.bit < 2 ^ 63 = counts.position_lt _ _ _ _ (block.inside_le _ _ _ _ (omega (arith, c.loop-c-test.true)) c.requires.4) (next) in
+    omega (arith, next_lt)
 
 pub without_lowest-left-requires : goal.without_lowest-left-requires
-without_lowest-left-requires c = at_some _ _ (lowest c)
+without_lowest-left-requires c =
+    let lowest : select (bit c.loop-c.left) 64 0 ≡ At c.in-At.bit = sym c.lsb_by.ensures ∙ c.in-At.is in
+    at_some _ _ (lowest)
 
 pub loop-c-smaller-in-At : goal.loop-c-smaller-in-At
 loop-c-smaller-in-At c = omega arith
 
 pub loop-c-preserved-in-At : goal.loop-c-preserved-in-At
 loop-c-preserved-in-At c =
+    let lowest : select (bit c.loop-c.left) 64 0 ≡ At c.in-At.bit = sym c.lsb_by.ensures ∙ c.in-At.is in
+    let next : Position (bit_over c.args.over_one c.args.words.now) (c.args.k + c.loop-c.c) (c.loop-c.word * 64 + c.in-At.bit) = let a = c.args in
+    let l = c.loop-c in
+    taking.left_position a.over_one a.words.now (λ i. (c.shared_slice_known-1.given i).fits) l.word l.left (a.k + l.c) l.invariant.2 c.in-At.bit (sym (lowest)) in
     let a = c.args in
     let l = c.loop-c in
     let x = l.word * 64 + c.in-At.bit in
@@ -72,42 +73,50 @@ loop-c-preserved-in-At c =
       omega arith,
       length-set l.a l.c x ∙ l.invariant.1,
       subst (Left a.over_one a.words.now l.word c.without_lowest-left.result) e
-          (taking.left_taken a.over_one a.words.now (λ i. (c.shared_slice_known-1.given i).fits) l.word l.left (a.k + l.c) l.invariant.2 c.in-At.bit (sym (lowest c.before)) c.without_lowest-left.result c.without_lowest-left.ensures),
+          (taking.left_taken a.over_one a.words.now (λ i. (c.shared_slice_known-1.given i).fits) l.word l.left (a.k + l.c) l.invariant.2 c.in-At.bit (sym (lowest)) c.without_lowest-left.result c.without_lowest-left.ensures),
       below_more (λ (i : ℕ). Position (bit_over a.over_one a.words.now) (a.k + i) (get_or (set l.a l.c x) i 0)) l.c
           (λ i h. subst (Position (bit_over a.over_one a.words.now) (a.k + i)) (sym (get_or-set_other l.a l.c i x 0 (λ (q : i ≡ l.c). omega arith))) (l.invariant.3 i h))
-          (subst (Position (bit_over a.over_one a.words.now) (a.k + l.c)) p (next c.before)),
+          (subst (Position (bit_over a.over_one a.words.now) (a.k + l.c)) p (next)),
     )
 
--- nothing is left: the next word has the next position
-left_next : (c : goal.In-Nothing)
-    → Left c.args.over_one c.args.words.now (c.loop-c.word + 1)
-    (word_over c.args.over_one (get_or c.args.words.now (c.loop-c.word + 1) 0))
-    (c.args.k + c.loop-c.c)
-left_next c =
-    let a = c.args in
-    let l = c.loop-c in
-    taking.left_next a.over_one a.words.now (λ i. (c.shared_slice_known-1.given i).fits) l.word l.left (a.k + l.c) l.invariant.2 (sym c.lsb_by.ensures ∙ c.in-Nothing.is)
-
-next_below : (c : goal.In-Nothing) → c.loop-c.word + 1 < length c.args.words.now
-next_below c =
-    let a = c.args in
-    let l = c.loop-c in
-    counts.word_below a.over_one a.words.now (l.word + 1) (a.k + l.c) (left_next c).low (block.inside_le _ _ _ _ (omega (arith, c.loop-c-test.true)) c.requires.4)
-
 pub overflow_add-word : goal.overflow_add-word
-overflow_add-word c = omega (arith, next_below c)
+overflow_add-word c =
+    let left_next : Left c.args.over_one c.args.words.now (c.loop-c.word + 1) (word_over c.args.over_one (get_or c.args.words.now (c.loop-c.word + 1) 0)) (c.args.k + c.loop-c.c) = let a = c.args in
+    let l = c.loop-c in
+    taking.left_next a.over_one a.words.now (λ i. (c.shared_slice_known-1.given i).fits) l.word l.left (a.k + l.c) l.invariant.2 (sym c.lsb_by.ensures ∙ c.in-Nothing.is) in
+    let next_below : c.loop-c.word + 1 < length c.args.words.now = let a = c.args in
+    let l = c.loop-c in
+    counts.word_below a.over_one a.words.now (l.word + 1) (a.k + l.c) (left_next).low (block.inside_le _ _ _ _ (omega (arith, c.loop-c-test.true)) c.requires.4) in
+    omega (arith, next_below)
 
 pub word_over-left-requires : goal.word_over-left-requires
-word_over-left-requires c = next_below c
+word_over-left-requires c =
+    let left_next : Left c.args.over_one c.args.words.now (c.loop-c.word + 1) (word_over c.args.over_one (get_or c.args.words.now (c.loop-c.word + 1) 0)) (c.args.k + c.loop-c.c) = let a = c.args in
+    let l = c.loop-c in
+    taking.left_next a.over_one a.words.now (λ i. (c.shared_slice_known-1.given i).fits) l.word l.left (a.k + l.c) l.invariant.2 (sym c.lsb_by.ensures ∙ c.in-Nothing.is) in
+    let next_below : c.loop-c.word + 1 < length c.args.words.now = let a = c.args in
+    let l = c.loop-c in
+    counts.word_below a.over_one a.words.now (l.word + 1) (a.k + l.c) (left_next).low (block.inside_le _ _ _ _ (omega (arith, c.loop-c-test.true)) c.requires.4) in
+    next_below
 
 pub loop-c-smaller : goal.loop-c-smaller
-loop-c-smaller c = omega (arith, next_below c.before)
+loop-c-smaller c =
+    let left_next : Left c.args.over_one c.args.words.now (c.loop-c.word + 1) (word_over c.args.over_one (get_or c.args.words.now (c.loop-c.word + 1) 0)) (c.args.k + c.loop-c.c) = let a = c.args in
+    let l = c.loop-c in
+    taking.left_next a.over_one a.words.now (λ i. (c.shared_slice_known-1.given i).fits) l.word l.left (a.k + l.c) l.invariant.2 (sym c.lsb_by.ensures ∙ c.in-Nothing.is) in
+    let next_below : c.loop-c.word + 1 < length c.args.words.now = let a = c.args in
+    let l = c.loop-c in
+    counts.word_below a.over_one a.words.now (l.word + 1) (a.k + l.c) (left_next).low (block.inside_le _ _ _ _ (omega (arith, c.loop-c-test.true)) c.requires.4) in
+    omega (arith, next_below)
 
 pub loop-c-preserved : goal.loop-c-preserved
 loop-c-preserved c =
+    let left_next : Left c.args.over_one c.args.words.now (c.loop-c.word + 1) (word_over c.args.over_one (get_or c.args.words.now (c.loop-c.word + 1) 0)) (c.args.k + c.loop-c.c) = let a = c.args in
+    let l = c.loop-c in
+    taking.left_next a.over_one a.words.now (λ i. (c.shared_slice_known-1.given i).fits) l.word l.left (a.k + l.c) l.invariant.2 (sym c.lsb_by.ensures ∙ c.in-Nothing.is) in
     let a = c.args in
     let l = c.loop-c in
-    (l.invariant.0, l.invariant.1, subst (λ (w : ℕ). Left a.over_one a.words.now (l.word + 1) w (a.k + l.c)) (sym c.word_over-left.ensures) (left_next c.before), l.invariant.3)
+    (l.invariant.0, l.invariant.1, subst (λ (w : ℕ). Left a.over_one a.words.now (l.word + 1) w (a.k + l.c)) (sym c.word_over-left.ensures) (left_next), l.invariant.3)
 
 pub returns : goal.returns
 returns c =

@@ -30,4 +30,4 @@ load_from-requires c =
 
 pub returns : goal.returns
 returns c =
-    subst (λ (z : ℕ). Loaded (bit_over c.args.over_one c.args.words.now) (1024 * c.args.block) z c.load_from.new.0 c.load_from.result) c.block_size.ensures c.load_from.ensures
+    subst (λ (z : ℕ). Loaded (bit_over c.args.over_one c.args.words.now) (1024 * c.args.block) z c.load_from.new.a c.load_from.result) c.block_size.ensures c.load_from.ensures

@@ -31,7 +31,7 @@ overflow_add-k-then-is_far c =
 
 pub returns-then-is_far : goal.returns-then-is_far
 returns-then-is_far c =
-    let a = c.fill.new.0 in
+    let a = c.fill.new.a in
     record {
       sampled = sampling.sampled_all (bit_over c.args.over_one c.args.words.now) c.args.k c.args.size (block_wide a c.args.size) a c.fill.ensures;
       next = c.cursor_at.ensures;

@@ -9,11 +9,11 @@ use Rattle.darray.proofs.pending.load_near.Goals as goal
 
 pub is_wide-requires : goal.is_wide-requires
 is_wide-requires c =
-    sampling.sampled_rises (bit_over c.args.over_one c.args.words.now) c.args.k c.args.size false c.sample-next.new.0 c.requires.some c.sample-next.ensures.0
+    sampling.sampled_rises (bit_over c.args.over_one c.args.words.now) c.args.k c.args.size false c.sample-next.new.a c.requires.some c.sample-next.ensures.0
 
 pub returns-then-is_wide : goal.returns-then-is_wide
 returns-then-is_wide c =
-    let a = c.fill.new.0 in
+    let a = c.fill.new.a in
     record {
       sampled = sampling.sampled_all (bit_over c.args.over_one c.args.words.now) c.args.k c.args.size (block_wide a c.args.size) a c.fill.ensures;
       next = c.sample-next.ensures.1;
@@ -24,6 +24,6 @@ unfolding block_wide
 returns-else-is_wide c =
     let e = c.sample-next in
     record {
-      sampled = subst (λ (w : Bool). Sampled (bit_over c.args.over_one c.args.words.now) c.args.k c.args.size w e.new.0) (sym c.if-is_wide.false ∙ c.is_wide.ensures) e.ensures.0;
+      sampled = subst (λ (w : Bool). Sampled (bit_over c.args.over_one c.args.words.now) c.args.k c.args.size w e.new.a) (sym c.if-is_wide.false ∙ c.is_wide.ensures) e.ensures.0;
       next = e.ensures.1;
     }

@@ -21,7 +21,7 @@ loop-i-preserved c =
       omega arith,
       search rules,
       ap (λ (o : List ℕ). set o (a.at + l.i) (get_or a.a.now l.i 0)) l.invariant.2
-          ∙ sym (ap (put a.out-1.now a.at (λ k. get_or a.a.now k 0)) (add-one l.i) ∙ flush.put_more a.out-1.now a.at (λ k. get_or a.a.now k 0) l.i),
+          ∙ sym (ap (put a.out.now a.at (λ k. get_or a.a.now k 0)) (add-one l.i) ∙ flush.put_more a.out.now a.at (λ k. get_or a.a.now k 0) l.i),
     )
 
 pub returns : goal.returns
@@ -29,4 +29,4 @@ returns c =
     let a = c.args in
     let l = c.loop-i in
     let e : l.i ≡ a.n = omega arith in
-    l.invariant.2 ∙ ap (put a.out-1.now a.at (λ k. get_or a.a.now k 0)) e
+    l.invariant.2 ∙ ap (put a.out.now a.at (λ k. get_or a.a.now k 0)) e

@@ -14,7 +14,7 @@ limit_of_requires : tie.Need-limit-of-requires
 limit_of_requires c κs = let s = c.before in let a = s.args in finished.limit_ready a.b a.words.now s.requires.0 (omega (arith, s.well-formed.1.0)) a.s s.requires.1
 
 returns : tie.Need-returns
-returns c = let s = c.before.before.before in let a = s.args in finished.limit-room a.b a.words.now s.requires.0 (omega (arith, s.well-formed.1.0)) a.s s.requires.1 a.rank _ (c.before.limit-of.ensures a.b.universe s.requires.1) c.if1.true
+returns c = let s = c.before.before.before in let a = s.args in finished.limit_room a.b a.words.now s.requires.0 (omega (arith, s.well-formed.1.0)) a.s s.requires.1 a.rank _ (c.before.limit-of.ensures a.b.universe s.requires.1) c.if1.true
 
 measured_len_requires : tie.Need-measured-len-requires
 measured_len_requires c κs = search rules

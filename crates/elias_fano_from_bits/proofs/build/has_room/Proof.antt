@@ -12,7 +12,7 @@ limit_of_requires : tie.Need-limit-of-requires
 limit_of_requires c κs = let s = c.before in let a = s.args in filing.limit_ready a.words.now a.len a.n a.s s.requires a.rank
 
 returns : tie.Need-returns
-returns c = let s = c.before.before.before in let a = s.args in filing.limit-room a.words.now a.len a.n a.s s.requires a.rank _ _ c.before.limit-of.ensures c.if1.true
+returns c = let s = c.before.before.before in let a = s.args in filing.limit_room a.words.now a.len a.n a.s s.requires a.rank _ _ c.before.limit-of.ensures c.if1.true
 
 measured_len_requires : tie.Need-measured-len-requires
 measured_len_requires c κs = search rules

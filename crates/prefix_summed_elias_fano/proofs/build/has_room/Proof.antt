@@ -12,7 +12,7 @@ limit_of_requires : tie.Need-limit-of-requires
 limit_of_requires c κs = let s = c.before in filing.limit_ready s.args.items.now s.requires.0 s.args.s s.requires.1
 
 returns : tie.Need-returns
-returns c = let s = c.before.before.before in filing.limit-room s.args.items.now s.requires.0 s.args.s s.requires.1 _ _ c.before.limit-of.ensures c.if1.true
+returns c = let s = c.before.before.before in filing.limit_room s.args.items.now s.requires.0 s.args.s s.requires.1 _ _ c.before.limit-of.ensures c.if1.true
 
 measured_len_requires : tie.Need-measured-len-requires
 measured_len_requires c κs = search rules
