@@ -21,9 +21,9 @@ use Rattle.elias_fano_words.proofs.Unset.{bit_past}
 
 -- ---- a bit of two words in common
 
-bit_and : (a b i : ℕ) → bit (bit_and a b) i ≡ bit_and (bit a i) (bit b i)
+bit-bit_and : (a b i : ℕ) → bit (bit_and a b) i ≡ bit_and (bit a i) (bit b i)
 unfolding bit
-bit_and a b i = ap (λ (x : ℕ). x % 2) (and_shr a b i) ∙ and_mod (a / 2 ^ i) (b / 2 ^ i) 1
+bit-bit_and a b i = ap (λ (x : ℕ). x % 2) (and_shr a b i) ∙ and_mod (a / 2 ^ i) (b / 2 ^ i) 1
 
 both : (a b : ℕ) → a ≤ 1 → b ≤ 1 → bit_and a b ≡ 1 → (a ≡ 1) × (b ≡ 1)
 both a b ha hb e = (let l = and_le_l a b in omega arith, let r = and_le_r a b in omega arith)
@@ -65,13 +65,13 @@ module _ (ws : List ℕ) (fit : Fit ws) (i : ℕ) where
   mark_pair j e =
       let l = mark_lt j e in
       let s : ℕ = bit_or (w / 2) ((get_or ws (i + 1) 0 * 2 ^ 63) % 2 ^ 64) in
-      let b = both (bit w j) (bit s j) (bit_le w j) (bit_le s j) (sym (bit_and w s j) ∙ e) in
+      let b = both (bit w j) (bit s j) (bit_le w j) (bit_le s j) (sym (bit-bit_and w s j) ∙ e) in
       (bit_at-word ws i j l ∙ b.0, sym (after j l) ∙ b.1)
 
   pair_mark : (j : ℕ) → j < 64 → bit_at ws (i * 64 + j) ≡ 1 → bit_at ws (suc (i * 64 + j)) ≡ 1 → bit x j ≡ 1
   pair_mark j l p q =
       let s : ℕ = bit_or (w / 2) ((get_or ws (i + 1) 0 * 2 ^ 63) % 2 ^ 64) in
-      bit_and w s j ∙ joint (bit w j) (bit s j) (sym (bit_at-word ws i j l) ∙ p) (after j l ∙ q)
+      bit-bit_and w s j ∙ joint (bit w j) (bit s j) (sym (bit_at-word ws i j l) ∙ p) (after j l ∙ q)
 
   number : (j : ℕ) → j ≤ 64 → count (bit_at ws) (i * 64 + j) ≡ count (bit_at ws) (i * 64) + ones w j
   number = count_word (bit_at ws) (λ i. get_or ws i 0) (bit_at-word ws) i
