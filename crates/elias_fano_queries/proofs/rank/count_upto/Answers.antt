@@ -1,0 +1,38 @@
+-- `elias_fano_queries::rank::count_upto` meets its contract.
+-- Assumes nothing.
+use native.Mathlib.Omega.{arith}
+use Rattle.elias_fano.proofs.Accepting.{found}
+use Rattle.elias_fano.proofs.Standing as standing
+use Rattle.elias_fano.proofs.Images.{is_fit}
+use Rattle.elias_fano_queries.proofs.Opened as opened
+use Rattle.elias_fano_queries.proofs.rank.count_upto.Goals as goal
+
+pub overflow_sub-zeros : goal.overflow_sub-zeros
+overflow_sub-zeros c = let f = found c.args.image.now c.requires.0.opened.ok in standing.ones-fit c.args.image.now c.args.p c.requires.0.opened.parts f.head (is_fit c.args.image.now c.requires.0.opened.ok).small f.bits
+
+pub slice_bounds-select_within-count : goal.slice_bounds-select_within-count
+slice_bounds-select_within-count c = standing.six_low c.args.image.now c.args.p c.requires.0.opened.parts (found c.args.image.now c.requires.0.opened.ok).head
+
+pub slice_bounds-select_within-start : goal.slice_bounds-select_within-start
+slice_bounds-select_within-start c = standing.six_low c.args.image.now c.args.p c.requires.0.opened.parts (found c.args.image.now c.requires.0.opened.ok).head
+
+pub slice_bounds-select_within-end : goal.slice_bounds-select_within-end
+slice_bounds-select_within-end c = standing.low_end c.args.image.now c.args.p c.requires.0.opened.parts (found c.args.image.now c.requires.0.opened.ok).head
+
+pub offset_bounds-image-zeros_at : goal.offset_bounds-image-zeros_at
+offset_bounds-image-zeros_at c = let e = standing.zeros_end c.args.image.now c.args.p c.requires.0.opened.parts (found c.args.image.now c.requires.0.opened.ok).head in record { fits = omega (arith, c.well_formed) }
+
+pub slice_bounds-select_within-count-2 : goal.slice_bounds-select_within-count-2
+slice_bounds-select_within-count-2 c = standing.zeros_end c.args.image.now c.args.p c.requires.0.opened.parts (found c.args.image.now c.requires.0.opened.ok).head
+
+pub slice_bounds-select_within-start-2 : goal.slice_bounds-select_within-start-2
+slice_bounds-select_within-start-2 c = standing.zeros_end c.args.image.now c.args.p c.requires.0.opened.parts (found c.args.image.now c.requires.0.opened.ok).head
+
+pub select_within-place-requires : goal.select_within-place-requires
+select_within-place-requires c = (opened.indexed_zeros c.args.image.now c.requires.0.opened.ok c.args.p c.requires.0.opened.parts c.requires.0.ranked _ c.requires.0.opened.rule, opened.zero_in c.args.image.now c.requires.0.opened.ok c.args.p c.requires.0.opened.parts c.args.h c.requires.1)
+
+pub overflow_sub-result : goal.overflow_sub-result
+overflow_sub-result c = opened.after-zeros c.args.image.now c.requires.0.opened.ok c.args.p c.requires.0.opened.parts c.args.h _ c.select_within-place.ensures
+
+pub returns : goal.returns
+returns c = opened.zero_rank c.args.image.now c.requires.0.opened.ok c.args.p c.requires.0.opened.parts c.args.h _ c.select_within-place.ensures
