@@ -20,28 +20,20 @@ overflow_shr-h c = selecting.low_small c.args.image.now c.requires.0.opened.ok c
 pub count_upto-end-requires : goal.count_upto-end-requires
 count_upto-end-requires c = (c.requires.0, shr_mono c.args.p.low_len (le_of_lt c.requires.1))
 
--- the place j before the end of the bucket is one of the high bits
-module _ (c : goal.Then-end-ge2) (j : ℕ) where
-  inside : IsOpen c.args.image.now c.args.p × (c.args.val / 2 ^ c.args.p.low_len + (c.count_upto-end.result - j) < c.args.p.high_len)
-  inside = ((is_open _ _ _ c.requires.0.opened), ranking.place_lt c.args.image.now c.args.p (is_open _ _ _ c.requires.0.opened) c.args.val _ c.count_upto-end.ensures c.requires.1 (c.count_upto-end.result - j) (omega arith))
-
-  fits : c.args.val / 2 ^ c.args.p.low_len + (c.count_upto-end.result - j) < 2 ^ 64
-  fits = omega (arith, inside.1, opened.high_small c.args.image.now c.requires.0.opened.ok c.args.p c.requires.0.opened.parts)
-
 pub overflow_sub-end : goal.overflow_sub-end
 overflow_sub-end c = omega (arith, c.if-end-ge2.true)
 
 pub overflow_add-h : goal.overflow_add-h
-overflow_add-h c = omega (arith, fits c 1)
+overflow_add-h c = omega (arith, ranking.place_lt c.args.image.now c.args.p (is_open _ _ _ c.requires.0.opened) c.args.val _ c.count_upto-end.ensures c.requires.1 (c.count_upto-end.result - 1) (omega arith), opened.high_small c.args.image.now c.requires.0.opened.ok c.args.p c.requires.0.opened.parts)
 
 pub high_bit-last-requires : goal.high_bit-last-requires
-high_bit-last-requires c = inside c 1
+high_bit-last-requires c = (is_open _ _ _ c.requires.0.opened, ranking.place_lt c.args.image.now c.args.p (is_open _ _ _ c.requires.0.opened) c.args.val _ c.count_upto-end.ensures c.requires.1 (c.count_upto-end.result - 1) (omega arith))
 
 pub overflow_add-h-then-end-ge2 : goal.overflow_add-h-then-end-ge2
-overflow_add-h-then-end-ge2 c = omega (arith, fits c.before 2)
+overflow_add-h-then-end-ge2 c = omega (arith, ranking.place_lt c.args.image.now c.args.p (is_open _ _ _ c.requires.0.opened) c.args.val _ c.count_upto-end.ensures c.requires.1 (c.count_upto-end.result - 2) (omega arith), opened.high_small c.args.image.now c.requires.0.opened.ok c.args.p c.requires.0.opened.parts)
 
 pub high_bit-requires : goal.high_bit-requires
-high_bit-requires c = inside c.before 2
+high_bit-requires c = (is_open _ _ _ c.requires.0.opened, ranking.place_lt c.args.image.now c.args.p (is_open _ _ _ c.requires.0.opened) c.args.val _ c.count_upto-end.ensures c.requires.1 (c.count_upto-end.result - 2) (omega arith))
 
 pub low_bits-low-requires : goal.low_bits-low-requires
 low_bits-low-requires c = le_of_lt (selecting.low_small c.args.image.now c.requires.0.opened.ok c.args.p c.requires.0.opened.parts)
