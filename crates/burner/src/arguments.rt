@@ -1,6 +1,7 @@
 // The program's arguments. The first, 0, is the program's own name.
 use burner_questions::send::first;
 use decimal::Parsed;
+use std::env::{Env, FillError};
 
 #[derive(Clone, Copy)]
 pub enum Got {
@@ -10,13 +11,23 @@ pub enum Got {
     Nothing,
 }
 
-// The argument i as it is.
-pub fn text(i: usize, buf: &mut [u8; 4096]) -> Got {
-    let n = os::arg(i, buf);
-    if os::errno() != 0 {
-        return Got::Nothing;
+// How many arguments the program was started with, its own name among them.
+pub fn count(rt: &HostRuntime) -> usize {
+    let mut start = [0u8; 1];
+    for i in 0..usize::MAX {
+        if let Err(FillError::NotPresent) = rt.arg(i, &mut start) {
+            return i;
+        }
     }
-    Got::Bytes(n)
+    usize::MAX
+}
+
+// The argument i as it is.
+pub fn text(rt: &HostRuntime, i: usize, buf: &mut [u8; 4096]) -> Got {
+    match rt.arg(i, buf) {
+        Ok(n) => Got::Bytes(n),
+        Err(_) => Got::Nothing,
+    }
 }
 
 // What was put there.
@@ -24,16 +35,16 @@ pub fn bytes(buf: &[u8; 4096], n: usize) -> &[u8] {
     first(buf, n)
 }
 
-fn parsed(i: usize) -> Parsed {
+fn parsed(rt: &HostRuntime, i: usize) -> Parsed {
     let mut buf = io::buffer();
-    match text(i, &mut buf) {
+    match text(rt, i, &mut buf) {
         Got::Bytes(n) => decimal::parse(bytes(&buf, n)),
         Got::Nothing => Parsed::OutOfForm,
     }
 }
 
-fn is_number(i: usize) -> bool {
-    match parsed(i) {
+fn is_number(rt: &HostRuntime, i: usize) -> bool {
+    match parsed(rt, i) {
         Parsed::Value(_) => true,
         Parsed::OutOfForm => false,
         Parsed::TooLarge => false,
@@ -41,10 +52,10 @@ fn is_number(i: usize) -> bool {
 }
 
 // The first argument from `from` on, of n, that is no number below 2^64; n where there is none.
-pub fn first_wrong(from: usize, n: usize) -> usize {
+pub fn first_wrong(rt: &HostRuntime, from: usize, n: usize) -> usize {
     let mut i = from;
     while i < n {
-        if !is_number(i) {
+        if !is_number(rt, i) {
             return i;
         }
         i += 1;
@@ -53,8 +64,8 @@ pub fn first_wrong(from: usize, n: usize) -> usize {
 }
 
 // The argument i as a number, or another where it is none.
-pub fn number(i: usize, other: u64) -> u64 {
-    match parsed(i) {
+pub fn number(rt: &HostRuntime, i: usize, other: u64) -> u64 {
+    match parsed(rt, i) {
         Parsed::Value(x) => x,
         Parsed::OutOfForm => other,
         Parsed::TooLarge => other,

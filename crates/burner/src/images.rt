@@ -17,21 +17,21 @@ fn put(numbers: &mut [u64; 1000], i: usize, x: u64) {
 }
 
 // The n seconds from the argument 3 on.
-fn seconds(n: usize, numbers: &mut [u64; 1000])
+fn seconds(rt: &HostRuntime, n: usize, numbers: &mut [u64; 1000])
     requires { n ≤ 1000 }
 {
     let mut i: usize = 0;
     while i < n {
-        put(numbers, i, arguments::number(i + 3, 0));
+        put(numbers, i, arguments::number(rt, i + 3, 0));
         i += 1;
     }
 }
 
 // How many seconds there are.
-fn count_seconds() -> usize
+fn count_seconds(rt: &HostRuntime) -> usize
     ensures { result ≤ 1000 }
 {
-    let n = os::arg_count();
+    let n = arguments::count(rt);
     if n < 3 {
         return 0;
     }
@@ -51,10 +51,10 @@ fn compared(
     table::answer(path, image, line::first(numbers, n), out)
 }
 
-fn winters(path: &[u8], image: &[u64], out: &mut [u8; 65536]) -> i32 {
+fn winters(rt: &HostRuntime, path: &[u8], image: &[u64], out: &mut [u8; 65536]) -> i32 {
     let mut numbers = [0u64; 1000];
-    let n = count_seconds();
-    seconds(n, &mut numbers);
+    let n = count_seconds(rt);
+    seconds(rt, n, &mut numbers);
     compared(path, image, &numbers, n, out)
 }
 
@@ -74,31 +74,31 @@ fn joined(text: &mut [u8; 65536], at: usize, part: &[u8]) -> Got {
 }
 
 // The argument i joins the line.
-fn added(text: &mut [u8; 65536], at: usize, i: usize) -> Got {
+fn added(rt: &HostRuntime, text: &mut [u8; 65536], at: usize, i: usize) -> Got {
     let mut part = io::buffer();
-    match arguments::text(i, &mut part) {
+    match arguments::text(rt, i, &mut part) {
         Got::Bytes(n) => joined(text, at, arguments::bytes(&part, n)),
         Got::Nothing => Got::Nothing,
     }
 }
 
 // The same after a space.
-fn added_next(text: &mut [u8; 65536], at: usize, i: usize) -> Got {
+fn added_next(rt: &HostRuntime, text: &mut [u8; 65536], at: usize, i: usize) -> Got {
     match joined(text, at, b" ") {
-        Got::Bytes(to) => added(text, to, i),
+        Got::Bytes(to) => added(rt, text, to, i),
         Got::Nothing => Got::Nothing,
     }
 }
 
 // The arguments from 3 on, of n, as a line.
-fn gathered(text: &mut [u8; 65536], n: usize) -> Got {
-    let mut at = added(text, 0, 3);
+fn gathered(rt: &HostRuntime, text: &mut [u8; 65536], n: usize) -> Got {
+    let mut at = added(rt, text, 0, 3);
     let mut i: usize = 4;
     while i < n {
         let Got::Bytes(to) = at else {
             return Got::Nothing;
         };
-        at = added_next(text, to, i);
+        at = added_next(rt, text, to, i);
         i += 1;
     }
     at
@@ -117,26 +117,26 @@ fn asked(text: &[u8; 65536], n: usize, image: &[u64], out: &mut [u8; 65536]) -> 
     }
 }
 
-fn ask(image: &[u64], out: &mut [u8; 65536]) -> i32 {
+fn ask(rt: &HostRuntime, image: &[u64], out: &mut [u8; 65536]) -> i32 {
     let mut text = io::large_buffer();
-    match gathered(&mut text, os::arg_count()) {
+    match gathered(rt, &mut text, arguments::count(rt)) {
         Got::Bytes(n) => asked(&text, n, image, out),
         Got::Nothing => usage::too_long(out, 4, b"the question"),
     }
 }
 
-fn list(path: &[u8], image: &[u64], out: &mut [u8; 65536]) -> i32 {
-    let from = arguments::number(3, 0);
-    let count = arguments::number(4, u64::MAX);
+fn list(rt: &HostRuntime, path: &[u8], image: &[u64], out: &mut [u8; 65536]) -> i32 {
+    let from = arguments::number(rt, 3, 0);
+    let count = arguments::number(rt, 4, u64::MAX);
     burner_questions::list::answer(path, image, from, count, out)
 }
 
-fn over(k: usize, path: &[u8], image: &[u64], out: &mut [u8; 65536]) -> i32 {
+fn over(rt: &HostRuntime, k: usize, path: &[u8], image: &[u64], out: &mut [u8; 65536]) -> i32 {
     match k {
         2 => burner_questions::check(path, image),
-        3 => list(path, image, out),
-        4 => ask(image, out),
-        _ => winters(path, image, out),
+        3 => list(rt, path, image, out),
+        4 => ask(rt, image, out),
+        _ => winters(rt, path, image, out),
     }
 }
 
@@ -160,19 +160,25 @@ fn not_loaded(path: &[u8], r: Loaded) -> i32 {
     }
 }
 
-fn of_file(k: usize, path: &[u8], words: &mut [u64; 524288], out: &mut [u8; 65536]) -> i32 {
-    let r = load(path, words);
+fn of_file(
+    rt: &HostRuntime,
+    k: usize,
+    path: &[u8],
+    words: &mut [u64; 524288],
+    out: &mut [u8; 65536],
+) -> i32 {
+    let r = load(rt, path, words);
     let Loaded::Words(n) = r else {
         return not_loaded(path, r);
     };
-    over(k, path, line::first(words, n), out)
+    over(rt, k, path, line::first(words, n), out)
 }
 
 // The command k, 2 to 5, over the image that the argument 2 names.
-pub fn answer(k: usize, words: &mut [u64; 524288], out: &mut [u8; 65536]) -> i32 {
+pub fn answer(rt: &HostRuntime, k: usize, words: &mut [u64; 524288], out: &mut [u8; 65536]) -> i32 {
     let mut path = io::buffer();
-    match arguments::text(2, &mut path) {
-        Got::Bytes(n) => of_file(k, arguments::bytes(&path, n), words, out),
+    match arguments::text(rt, 2, &mut path) {
+        Got::Bytes(n) => of_file(rt, k, arguments::bytes(&path, n), words, out),
         Got::Nothing => usage::too_long(out, k, b"IMAGE"),
     }
 }

@@ -10,17 +10,18 @@ use elias_fano::image::Number;
 use errors::Refusal;
 use record_file::sentences;
 
-pub fn log(words: &mut [u64; 524288], out: &mut [u8; 65536]) -> i32 {
-    let every = arguments::number(5, 1);
+pub fn log(rt: &HostRuntime, words: &mut [u64; 524288], out: &mut [u8; 65536]) -> i32 {
+    let every = arguments::number(rt, 5, 1);
     if every == 0 {
         return usage::wrong(out, 0, b"EVERY", b" is 1 at least; ");
     }
     let mut file = io::buffer();
-    match arguments::text(2, &mut file) {
+    match arguments::text(rt, 2, &mut file) {
         Got::Bytes(n) => burner_log::log(
+            rt,
             arguments::bytes(&file, n),
-            arguments::number(3, 0),
-            arguments::number(4, 0),
+            arguments::number(rt, 3, 0),
+            arguments::number(rt, 4, 0),
             every,
             words,
             out,
@@ -30,22 +31,35 @@ pub fn log(words: &mut [u64; 524288], out: &mut [u8; 65536]) -> i32 {
 }
 
 // `finish` with its choice and its first file.
-fn finished(file: &[u8], rank: bool, words: &mut [u64; 524288], out: &mut [u8; 65536]) -> i32 {
+fn finished(
+    rt: &HostRuntime,
+    file: &[u8],
+    rank: bool,
+    words: &mut [u64; 524288],
+    out: &mut [u8; 65536],
+) -> i32 {
     let mut image = io::buffer();
-    match arguments::text(3, &mut image) {
-        Got::Bytes(n) => burner_log::finish(file, arguments::bytes(&image, n), rank, words, out),
+    match arguments::text(rt, 3, &mut image) {
+        Got::Bytes(n) => burner_log::finish(
+            rt,
+            file,
+            arguments::bytes(&image, n),
+            rank,
+            words,
+            out,
+        ),
         Got::Nothing => usage::too_long(out, 1, b"IMAGE"),
     }
 }
 
-pub fn finish(words: &mut [u64; 524288], out: &mut [u8; 65536]) -> i32 {
-    let c = arguments::number(4, 2);
+pub fn finish(rt: &HostRuntime, words: &mut [u64; 524288], out: &mut [u8; 65536]) -> i32 {
+    let c = arguments::number(rt, 4, 2);
     if 1 < c {
         return usage::no_choice(out, 1);
     }
     let mut file = io::buffer();
-    match arguments::text(2, &mut file) {
-        Got::Bytes(n) => finished(arguments::bytes(&file, n), c == 1, words, out),
+    match arguments::text(rt, 2, &mut file) {
+        Got::Bytes(n) => finished(rt, arguments::bytes(&file, n), c == 1, words, out),
         Got::Nothing => usage::too_long(out, 1, b"FILE"),
     }
 }
@@ -82,14 +96,14 @@ fn limited(universe: u64, count: u64, rank: bool, out: &mut [u8; 65536]) -> i32 
     }
 }
 
-pub fn limit(out: &mut [u8; 65536]) -> i32 {
-    let c = arguments::number(4, 2);
+pub fn limit(rt: &HostRuntime, out: &mut [u8; 65536]) -> i32 {
+    let c = arguments::number(rt, 4, 2);
     if 1 < c {
         return usage::no_choice(out, 6);
     }
     limited(
-        arguments::number(2, 0),
-        arguments::number(3, 0),
+        arguments::number(rt, 2, 0),
+        arguments::number(rt, 3, 0),
         c == 1,
         out,
     )

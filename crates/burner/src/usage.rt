@@ -91,9 +91,9 @@ pub fn wrong(out: &mut [u8; 65536], k: usize, what: &[u8], how: &[u8]) -> i32 {
 }
 
 // The argument i should be a number.
-pub fn no_number(out: &mut [u8; 65536], k: usize, i: usize) -> i32 {
+pub fn no_number(rt: &HostRuntime, out: &mut [u8; 65536], k: usize, i: usize) -> i32 {
     let mut buf = io::buffer();
-    match arguments::text(i, &mut buf) {
+    match arguments::text(rt, i, &mut buf) {
         Got::Bytes(n) => wrong(
             out,
             k,

@@ -47,18 +47,26 @@ fn test_settings(universe: u64, num_vals: u64, len: usize, out: &mut [u8; 65536]
 }
 
 // A record without a start is saved before the first line is read: so the file is there, and can be written.
-fn begun(file: &[u8], b: Builder, every: u64, words: &mut [u64], out: &mut [u8; 65536]) -> i32 {
+fn begun(
+    rt: &HostRuntime,
+    file: &[u8],
+    b: Builder,
+    every: u64,
+    words: &mut [u64],
+    out: &mut [u8; 65536],
+) -> i32 {
     if b.num_pushed == 0 {
-        if let Saved::Failed = record_file::keep(file, b, &*words) {
+        if let Saved::Failed = record_file::keep(rt, file, b, &*words) {
             say::of_file(file, b" cannot be written");
             return 2;
         }
     }
-    lines::all(file, lines::begin(b, every), words, out)
+    lines::all(rt, file, lines::begin(b, every), words, out)
 }
 
 // Logs to the record in the file: as many lines as standard input has, with a save after so many accepted ones.
 pub fn log(
+    rt: &HostRuntime,
     file: &[u8],
     universe: u64,
     num_vals: u64,
@@ -72,8 +80,8 @@ pub fn log(
             return status;
         }
     }
-    match opening::to_log(file, universe, num_vals, words, out) {
-        Opened::Record(b) => begun(file, b, every, words, out),
+    match opening::to_log(rt, file, universe, num_vals, words, out) {
+        Opened::Record(b) => begun(rt, file, b, every, words, out),
         Opened::Stopped(status) => status,
     }
 }
@@ -87,11 +95,17 @@ fn done(out: &mut [u8; 65536], n: usize) {
 }
 
 // Writes the image, which the first n words are.
-fn write_image(image: &[u8], words: &[u64], n: usize, out: &mut [u8; 65536]) -> i32 {
+fn write_image(
+    rt: &HostRuntime,
+    image: &[u8],
+    words: &[u64],
+    n: usize,
+    out: &mut [u8; 65536],
+) -> i32 {
     if words.len() < n {
         return 1;
     }
-    match word_files::save(image, &[], &words[..n]) {
+    match word_files::save(rt, image, &[], &words[..n]) {
         Saved::Done => {
             done(out, n);
             0
@@ -105,15 +119,16 @@ fn write_image(image: &[u8], words: &[u64], n: usize, out: &mut [u8; 65536]) -> 
 
 // Makes an image of the record in the file, with an index over the zeros for `rank`.
 pub fn finish(
+    rt: &HostRuntime,
     file: &[u8],
     image: &[u8],
     rank: bool,
     words: &mut [u64],
     out: &mut [u8; 65536],
 ) -> i32 {
-    match opening::to_finish(file, words) {
+    match opening::to_finish(rt, file, words) {
         Opened::Record(b) => match build(b, rank, &mut *words) {
-            Built::Words(n) => write_image(image, words, n, out),
+            Built::Words(n) => write_image(rt, image, words, n, out),
             Built::Refused(e) => {
                 sentences::refused(out, b"no image can be made of it here", e);
                 1

@@ -3,6 +3,7 @@ use console_text::output;
 use decimal::Parsed;
 use elias_fano::builder::{Builder, Pushed, push};
 use errors::Refusal;
+use std::io::Read;
 use word_files::{Saved, say};
 
 #[derive(Clone, Copy)]
@@ -63,8 +64,8 @@ fn refused(out: &mut [u8; 65536], s: State, e: Refusal) -> State {
 }
 
 // Saves the record, and counts anew.
-fn saved(file: &[u8], s: State, words: &[u64], out: &[u8; 65536]) -> State {
-    match record_file::keep(file, s.record, words) {
+fn saved(rt: &HostRuntime, file: &[u8], s: State, words: &[u64], out: &[u8; 65536]) -> State {
+    match record_file::keep(rt, file, s.record, words) {
         Saved::Done => {
             let mut t = s;
             t.left = s.every;
@@ -79,8 +80,14 @@ fn saved(file: &[u8], s: State, words: &[u64], out: &[u8; 65536]) -> State {
 }
 
 // The answer to the time with which the record is to be saved: after the save, and at once.
-fn accepted_saved(file: &[u8], s: State, words: &[u64], out: &mut [u8; 65536]) -> State {
-    let t = saved(file, s, words, out);
+fn accepted_saved(
+    rt: &HostRuntime,
+    file: &[u8],
+    s: State,
+    words: &[u64],
+    out: &mut [u8; 65536],
+) -> State {
+    let t = saved(rt, file, s, words, out);
     if !t.going {
         return t;
     }
@@ -88,30 +95,50 @@ fn accepted_saved(file: &[u8], s: State, words: &[u64], out: &mut [u8; 65536]) -
     flushed(out, u)
 }
 
-fn accepted(file: &[u8], s: State, words: &[u64], out: &mut [u8; 65536]) -> State {
+fn accepted(
+    rt: &HostRuntime,
+    file: &[u8],
+    s: State,
+    words: &[u64],
+    out: &mut [u8; 65536],
+) -> State {
     if s.left <= 1 {
-        return accepted_saved(file, s, words, out);
+        return accepted_saved(rt, file, s, words, out);
     }
     let mut t = s;
     t.left = s.left - 1;
     said(out, t, b"ok")
 }
 
-fn pushed(file: &[u8], s: State, time: u64, words: &mut [u64], out: &mut [u8; 65536]) -> State {
+fn pushed(
+    rt: &HostRuntime,
+    file: &[u8],
+    s: State,
+    time: u64,
+    words: &mut [u64],
+    out: &mut [u8; 65536],
+) -> State {
     match push(s.record, time, &mut *words) {
         Pushed::Accepted(b) => {
             let mut t = s;
             t.record = b;
-            accepted(file, t, words, out)
+            accepted(rt, file, t, words, out)
         }
         Pushed::Refused(e) => refused(out, s, e),
     }
 }
 
 // A line without its line feed.
-fn answered(file: &[u8], s: State, text: &[u8], words: &mut [u64], out: &mut [u8; 65536]) -> State {
+fn answered(
+    rt: &HostRuntime,
+    file: &[u8],
+    s: State,
+    text: &[u8],
+    words: &mut [u64],
+    out: &mut [u8; 65536],
+) -> State {
     match decimal::parse(text) {
-        Parsed::Value(time) => pushed(file, s, time, words, out),
+        Parsed::Value(time) => pushed(rt, file, s, time, words, out),
         Parsed::OutOfForm => said(out, s, b"bad line"),
         Parsed::TooLarge => said(out, s, b"bad line"),
     }
@@ -119,6 +146,7 @@ fn answered(file: &[u8], s: State, text: &[u8], words: &mut [u64], out: &mut [u8
 
 // The line as it stands.
 fn line_answered(
+    rt: &HostRuntime,
     file: &[u8],
     s: State,
     text: &[u8],
@@ -132,18 +160,19 @@ fn line_answered(
     if text.len() < n {
         return said(out, s, b"bad line");
     }
-    answered(file, s, &text[..n], words, out)
+    answered(rt, file, s, &text[..n], words, out)
 }
 
 // Answers the line, and starts the next.
 fn ended(
+    rt: &HostRuntime,
     file: &[u8],
     s: State,
     text: &[u8; 64],
     words: &mut [u64],
     out: &mut [u8; 65536],
 ) -> State {
-    let mut t = line_answered(file, s, text, words, out);
+    let mut t = line_answered(rt, file, s, text, words, out);
     t.count = 0;
     t.long = false;
     t
@@ -151,6 +180,7 @@ fn ended(
 
 // A byte of the input: it joins the line, as far as there is room, or ends it.
 fn byte_taken(
+    rt: &HostRuntime,
     file: &[u8],
     s: State,
     b: u8,
@@ -159,7 +189,7 @@ fn byte_taken(
     out: &mut [u8; 65536],
 ) -> State {
     if b == b'\n' {
-        return ended(file, s, text, words, out);
+        return ended(rt, file, s, text, words, out);
     }
     let n = s.count;
     let mut t = s;
@@ -173,6 +203,7 @@ fn byte_taken(
 }
 
 fn input_taken(
+    rt: &HostRuntime,
     file: &[u8],
     s: State,
     input: &[u8],
@@ -183,7 +214,7 @@ fn input_taken(
     let mut t = s;
     let mut at: usize = 0;
     while at < input.len() {
-        t = byte_taken(file, t, input[at], text, &mut *words, out);
+        t = byte_taken(rt, file, t, input[at], text, &mut *words, out);
         if !t.going {
             return t;
         }
@@ -194,6 +225,7 @@ fn input_taken(
 
 // The last line may lack its line feed.
 fn last_line(
+    rt: &HostRuntime,
     file: &[u8],
     s: State,
     text: &[u8; 64],
@@ -203,53 +235,56 @@ fn last_line(
     if s.count == 0 {
         return s;
     }
-    ended(file, s, text, words, out)
+    ended(rt, file, s, text, words, out)
 }
 
-fn last_save(file: &[u8], s: State, words: &[u64], out: &[u8; 65536]) -> State {
+fn last_save(rt: &HostRuntime, file: &[u8], s: State, words: &[u64], out: &[u8; 65536]) -> State {
     if s.left == s.every {
         return s;
     }
-    saved(file, s, words, out)
+    saved(rt, file, s, words, out)
 }
 
 // All lines are answered: what is not saved is saved.
-fn settled(file: &[u8], s: State, words: &[u64], out: &[u8; 65536]) -> State {
+fn settled(rt: &HostRuntime, file: &[u8], s: State, words: &[u64], out: &[u8; 65536]) -> State {
     if !s.going {
         return s;
     }
     let t = flushed(out, s);
-    let u = last_save(file, t, words, out);
+    let u = last_save(rt, file, t, words, out);
     stopped(u, u.status)
 }
 
 // At the end of the input.
 fn input_ended(
+    rt: &HostRuntime,
     file: &[u8],
     s: State,
     text: &[u8; 64],
     words: &mut [u64],
     out: &mut [u8; 65536],
 ) -> State {
-    let t = last_line(file, s, text, &mut *words, out);
-    settled(file, t, words, out)
+    let t = last_line(rt, file, s, text, &mut *words, out);
+    settled(rt, file, t, words, out)
 }
 
 // An input that fails ends as one that is at its end.
 fn input_failed(
+    rt: &HostRuntime,
     file: &[u8],
     s: State,
     text: &[u8; 64],
     words: &mut [u64],
     out: &mut [u8; 65536],
 ) -> State {
-    let t = input_ended(file, s, text, words, out);
+    let t = input_ended(rt, file, s, text, words, out);
     say::sentence(b"standard input cannot be read");
     stopped(t, 2)
 }
 
 // Reads once, and answers the lines that are whole.
 fn turn(
+    rt: &HostRuntime,
     file: &[u8],
     s: State,
     text: &mut [u8; 64],
@@ -257,25 +292,29 @@ fn turn(
     out: &mut [u8; 65536],
 ) -> State {
     let mut input = io::large_buffer();
-    let got = libc::read(0, &mut input);
-    if got < 0 {
-        return input_failed(file, s, text, words, out);
+    match rt.stdin().read(&mut input) {
+        Ok(0) => input_ended(rt, file, s, text, words, out),
+        Ok(n) => {
+            let t = input_taken(rt, file, s, &input[..n], text, words, out);
+            flushed(out, t)
+        }
+        Err(_) => input_failed(rt, file, s, text, words, out),
     }
-    if got == 0 {
-        return input_ended(file, s, text, words, out);
-    }
-    let n = io::count(got, &input);
-    let t = input_taken(file, s, &input[..n], text, words, out);
-    flushed(out, t)
 }
 
 // Answers every line, and gives the status.
-pub fn all(file: &[u8], begun: State, words: &mut [u64], out: &mut [u8; 65536]) -> i32 {
+pub fn all(
+    rt: &HostRuntime,
+    file: &[u8],
+    begun: State,
+    words: &mut [u64],
+    out: &mut [u8; 65536],
+) -> i32 {
     let mut text = [0u8; 64];
     let mut s = begun;
     let mut turns = u64::MAX;
     while turns > 0 {
-        s = turn(file, s, &mut text, &mut *words, out);
+        s = turn(rt, file, s, &mut text, &mut *words, out);
         if !s.going {
             return s.status;
         }

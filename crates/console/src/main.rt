@@ -11,6 +11,7 @@ mod words;
 
 use command::State;
 use console_text::{line, output};
+use std::io::Read;
 
 // The part joins the line, as far as there is room.
 fn gather(text: &mut [u8; 65536], part: &[u8], s: State) -> State {
@@ -115,8 +116,19 @@ fn stopped(s: State) -> State {
     t
 }
 
+// How many bytes standard input has given, or 0 at its end. An input that fails is at its end.
+fn read_once(rt: &HostRuntime, input: &mut [u8]) -> usize
+    ensures { result ≤ length input.new }
+{
+    match rt.stdin().read(input) {
+        Ok(n) => n,
+        Err(_) => 0,
+    }
+}
+
 // Reads once, and answers the lines that are whole. At the end of the input the last line may lack its line feed.
 fn turn(
+    rt: &HostRuntime,
     text: &mut [u8; 65536],
     words: &mut [u64; 4096],
     buffer: &mut [u64; 65536],
@@ -124,17 +136,16 @@ fn turn(
     s: State,
 ) -> State {
     let mut input = io::large_buffer();
-    let got = libc::read(0, &mut input);
-    if got <= 0 {
+    let got = read_once(rt, &mut input);
+    if got == 0 {
         let t = answered(text, words, buffer, out, s);
         return stopped(flushed(out, t));
     }
-    let n = io::count(got, &input);
-    let t = eat_all(&input[..n], text, words, buffer, out, s);
+    let t = eat_all(&input[..got], text, words, buffer, out, s);
     flushed(out, t)
 }
 
-fn main() {
+fn main(rt: HostRuntime) {
     let mut text = [0u8; 65536];
     let mut words = [0u64; 4096];
     let mut buffer = [0u64; 65536];
@@ -153,7 +164,7 @@ fn main() {
     };
     let mut turns = u64::MAX;
     while turns > 0 && s.going {
-        s = turn(&mut text, &mut words, &mut buffer, &mut out, s);
+        s = turn(&rt, &mut text, &mut words, &mut buffer, &mut out, s);
         turns -= 1;
     }
 }

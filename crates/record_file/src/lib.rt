@@ -61,20 +61,20 @@ fn head(b: Builder, words: &[u64]) -> [u64; 5]
     [b.universe, b.num_vals, b.num_pushed, b.last, check]
 }
 
-fn keep_start(path: &[u8], b: Builder, words: &[u64]) -> Saved {
+fn keep_start(rt: &HostRuntime, path: &[u8], b: Builder, words: &[u64]) -> Saved {
     let front = head(b, words);
-    word_files::save(path, &front, words)
+    word_files::save(rt, path, &front, words)
 }
 
 // Saves the record: the builder and the words of its start, with which the lent ones begin.
-pub fn keep(path: &[u8], b: Builder, words: &[u64]) -> Saved {
+pub fn keep(rt: &HostRuntime, path: &[u8], b: Builder, words: &[u64]) -> Saved {
     let Start::Words(n) = start_of(b) else {
         return Saved::Failed;
     };
     if words.len() < n {
         return Saved::Failed;
     }
-    keep_start(path, b, &words[..n])
+    keep_start(rt, path, b, &words[..n])
 }
 
 // The builder that stands in front.
@@ -168,8 +168,8 @@ fn taken(words: &mut [u64], n: usize) -> Kept
 }
 
 // The record that was kept, with the words of its start at the front of those that are lent.
-pub fn restore(path: &[u8], words: &mut [u64]) -> Kept {
-    match word_files::load(path, &mut *words) {
+pub fn restore(rt: &HostRuntime, path: &[u8], words: &mut [u64]) -> Kept {
+    match word_files::load(rt, path, &mut *words) {
         Loaded::Words(n) => taken(words, n),
         Loaded::Missing => Kept::Missing,
         Loaded::Unreadable => Kept::Unreadable,

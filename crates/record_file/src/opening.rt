@@ -1,7 +1,7 @@
 // The record that a command goes on with: that of the file, or of what was kept of it under its name with `.1`.
 use crate::{Kept, restore, sentences};
 use elias_fano::builder::{Builder, Pushed, new};
-use word_files::{names, say};
+use word_files::{files, names, say};
 
 #[derive(Clone, Copy)]
 pub enum Opened {
@@ -52,8 +52,8 @@ fn by_settings(b: Builder, w: Wanted) -> Seen {
     Seen::Held(b)
 }
 
-fn look(file: &[u8], w: Wanted, words: &mut [u64]) -> Seen {
-    match restore(file, words) {
+fn look(rt: &HostRuntime, file: &[u8], w: Wanted, words: &mut [u64]) -> Seen {
+    match restore(rt, file, words) {
         Kept::Held(b) => by_settings(b, w),
         Kept::Missing => Seen::Missing,
         Kept::Unreadable => Seen::Unreadable,
@@ -90,30 +90,28 @@ fn stop(file: &[u8], s: Seen) -> Opened {
 }
 
 // Whether there is no file of this name.
-fn is_free(name: &[u8]) -> bool {
-    let fd = os::open_update(name);
-    if fd < 0 {
-        return os::errno() == libc::ENOENT;
+fn is_free(rt: &HostRuntime, name: &[u8]) -> bool {
+    match files::open_update(rt, name) {
+        Ok(_) => false,
+        Err(e) => files::is_missing(&e),
     }
-    libc::close(fd);
-    false
 }
 
 // Renames the file to the name, unless that is taken: one step, which a cut leaves done or not.
-fn rename_aside(file: &[u8], name: &[u8]) -> Aside {
-    if !is_free(name) {
+fn rename_aside(rt: &HostRuntime, file: &[u8], name: &[u8]) -> Aside {
+    if !is_free(rt, name) {
         return Aside::There;
     }
-    if os::rename(file, name) < 0 {
-        return Aside::Failed;
+    match files::rename(rt, file, name) {
+        Ok(()) => Aside::Done,
+        Err(_) => Aside::Failed,
     }
-    Aside::Done
 }
 
-fn set_aside(file: &[u8]) -> Aside {
+fn set_aside(rt: &HostRuntime, file: &[u8]) -> Aside {
     let mut name = io::buffer();
     let n = names::join(file, b".refused", &mut name);
-    rename_aside(file, &name[..n])
+    rename_aside(rt, file, &name[..n])
 }
 
 fn go_on(file: &[u8], b: Builder, out: &mut [u8; 65536]) -> Opened {
@@ -122,8 +120,14 @@ fn go_on(file: &[u8], b: Builder, out: &mut [u8; 65536]) -> Opened {
 }
 
 // The file is refused, and the older one is not: the next save must not drop the refused one.
-fn go_on_instead(file: &[u8], old: &[u8], b: Builder, out: &mut [u8; 65536]) -> Opened {
-    match set_aside(file) {
+fn go_on_instead(
+    rt: &HostRuntime,
+    file: &[u8],
+    old: &[u8],
+    b: Builder,
+    out: &mut [u8; 65536],
+) -> Opened {
+    match set_aside(rt, file) {
         Aside::Done => {
             say::of_file(file, b" is set aside under its name with .refused");
             go_on(old, b, out)
@@ -153,8 +157,14 @@ fn begin(w: Wanted, words: &mut [u64], out: &mut [u8; 65536]) -> Opened {
 }
 
 // There is no file: the older one, as after a cut between two renames, or a new record.
-fn log_old(old: &[u8], w: Wanted, words: &mut [u64], out: &mut [u8; 65536]) -> Opened {
-    let s = look(old, w, &mut *words);
+fn log_old(
+    rt: &HostRuntime,
+    old: &[u8],
+    w: Wanted,
+    words: &mut [u64],
+    out: &mut [u8; 65536],
+) -> Opened {
+    let s = look(rt, old, w, &mut *words);
     if let Seen::Missing = s {
         return begin(w, words, out);
     }
@@ -166,6 +176,7 @@ fn log_old(old: &[u8], w: Wanted, words: &mut [u64], out: &mut [u8; 65536]) -> O
 
 // The file is refused for what was seen: the older one, where it holds a record of these settings.
 fn log_instead(
+    rt: &HostRuntime,
     file: &[u8],
     s: Seen,
     old: &[u8],
@@ -173,34 +184,36 @@ fn log_instead(
     words: &mut [u64],
     out: &mut [u8; 65536],
 ) -> Opened {
-    let Seen::Held(b) = look(old, w, words) else {
+    let Seen::Held(b) = look(rt, old, w, words) else {
         return stop(file, s);
     };
-    go_on_instead(file, old, b, out)
+    go_on_instead(rt, file, old, b, out)
 }
 
 fn log_either(
+    rt: &HostRuntime,
     file: &[u8],
     old: &[u8],
     w: Wanted,
     words: &mut [u64],
     out: &mut [u8; 65536],
 ) -> Opened {
-    let s = look(file, w, &mut *words);
+    let s = look(rt, file, w, &mut *words);
     if let Seen::Held(b) = s {
         return go_on(file, b, out);
     }
     if let Seen::Missing = s {
-        return log_old(old, w, words, out);
+        return log_old(rt, old, w, words, out);
     }
     if let Seen::Unreadable = s {
         return stop(file, s);
     }
-    log_instead(file, s, old, w, words, out)
+    log_instead(rt, file, s, old, w, words, out)
 }
 
 // The record of these settings to log to, which may be new.
 pub fn to_log(
+    rt: &HostRuntime,
     file: &[u8],
     universe: u64,
     num_vals: u64,
@@ -218,31 +231,44 @@ pub fn to_log(
     };
     let mut name = io::buffer();
     let n = names::join(file, b".1", &mut name);
-    log_either(file, &name[..n], w, words, out)
+    log_either(rt, file, &name[..n], w, words, out)
 }
 
 // There is no record in the file for what was seen: the older one.
-fn finish_instead(file: &[u8], s: Seen, old: &[u8], w: Wanted, words: &mut [u64]) -> Opened {
-    let Seen::Held(b) = look(old, w, words) else {
+fn finish_instead(
+    rt: &HostRuntime,
+    file: &[u8],
+    s: Seen,
+    old: &[u8],
+    w: Wanted,
+    words: &mut [u64],
+) -> Opened {
+    let Seen::Held(b) = look(rt, old, w, words) else {
         return stop(file, s);
     };
     say::of_file(old, b" is taken instead");
     Opened::Record(b)
 }
 
-fn finish_either(file: &[u8], old: &[u8], w: Wanted, words: &mut [u64]) -> Opened {
-    let s = look(file, w, &mut *words);
+fn finish_either(
+    rt: &HostRuntime,
+    file: &[u8],
+    old: &[u8],
+    w: Wanted,
+    words: &mut [u64],
+) -> Opened {
+    let s = look(rt, file, w, &mut *words);
     if let Seen::Held(b) = s {
         return Opened::Record(b);
     }
     if let Seen::Unreadable = s {
         return stop(file, s);
     }
-    finish_instead(file, s, old, w, words)
+    finish_instead(rt, file, s, old, w, words)
 }
 
 // The record to finish, of any settings.
-pub fn to_finish(file: &[u8], words: &mut [u64]) -> Opened {
+pub fn to_finish(rt: &HostRuntime, file: &[u8], words: &mut [u64]) -> Opened {
     if !names::fits(file, 8) {
         say::sentence(b"the name of the file is empty or too long");
         return Opened::Stopped(2);
@@ -254,5 +280,5 @@ pub fn to_finish(file: &[u8], words: &mut [u64]) -> Opened {
     };
     let mut name = io::buffer();
     let n = names::join(file, b".1", &mut name);
-    finish_either(file, &name[..n], w, words)
+    finish_either(rt, file, &name[..n], w, words)
 }

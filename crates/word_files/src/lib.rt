@@ -5,10 +5,13 @@ ghost use Rattle.std.specs.Prelude.{length};
 ghost use Rattle.word_files.specs.Files.{Within};
 
 pub mod bytes;
+pub mod files;
 pub mod names;
 mod reading;
 mod saving;
 pub mod say;
+
+use std::io::Error;
 
 #[derive(Clone, Copy)]
 pub enum Loaded {
@@ -32,29 +35,32 @@ pub enum Saved {
 }
 
 // The file's words, at the front of those that are lent.
-pub fn load(path: &[u8], words: &mut [u64]) -> Loaded
+pub fn load(rt: &HostRuntime, path: &[u8], words: &mut [u64]) -> Loaded
     ensures { Within (length words.old) result }
 {
-    let fd = os::open_read(path);
-    if 0 <= fd {
-        return reading::load_open(fd, words);
+    match files::open_read(rt, path) {
+        Ok(file) => reading::load_open(file, words),
+        Err(e) => not_opened(&e),
     }
-    if os::errno() == libc::ENOENT {
+}
+
+// A file that cannot be opened.
+fn not_opened(e: &Error) -> Loaded
+    ensures { Within 0 result }
+{
+    if files::is_missing(e) {
         return Loaded::Missing;
     }
     Loaded::Unreadable
 }
 
 // The head and then the words become the file.
-pub fn save(path: &[u8], head: &[u64], words: &[u64]) -> Saved {
+pub fn save(rt: &HostRuntime, path: &[u8], head: &[u64], words: &[u64]) -> Saved {
     if !names::fits(path, 4) {
         return Saved::Failed;
     }
-    let dir = names::open_directory(path);
-    if dir < 0 {
+    let Ok(dir) = names::open_directory(rt, path) else {
         return Saved::Failed;
-    }
-    let r = saving::save_in(dir, path, head, words);
-    libc::close(dir);
-    r
+    };
+    saving::save_in(rt, &dir, path, head, words)
 }

@@ -2,6 +2,10 @@
 ghost use Rattle.std.specs.Prelude.{◌≤◌, length};
 ghost use Rattle.io.specs.Counts.{IsPrefixLen};
 
+use crate::files;
+use std::fs::File;
+use std::io::Error;
+
 // The most bytes of a path, without the 0 that ends it.
 const LONGEST: usize = 4095;
 
@@ -56,11 +60,11 @@ fn after_slash(path: &[u8]) -> usize
     0
 }
 
-// Opens the directory that the file stands in, and answers a descriptor, or -1.
-pub fn open_directory(path: &[u8]) -> i32 {
+// Opens the directory that the file stands in.
+pub fn open_directory(rt: &HostRuntime, path: &[u8]) -> Result<File, Error> {
     let n = after_slash(path);
     if n == 0 {
-        return os::open_read(b".");
+        return files::open_read(rt, b".");
     }
-    os::open_read(&path[..n])
+    files::open_read(rt, &path[..n])
 }

@@ -4,6 +4,8 @@ ghost use Rattle.word_files.specs.Files.{Within, Fits};
 
 use crate::Loaded;
 use crate::bytes::unpack;
+use std::fs::File;
+use std::io::Read;
 
 #[derive(Clone, Copy)]
 enum Filled {
@@ -12,31 +14,30 @@ enum Filled {
 }
 
 // Reads once.
-fn read_once(fd: i32, buf: &mut [u8]) -> Filled
+fn read_once(file: &mut File, buf: &mut [u8]) -> Filled
     ensures { Fits (length buf.old) result }
 {
-    let got = libc::read(fd, &mut *buf);
-    if got < 0 {
-        return Filled::Failed;
+    match file.read(buf) {
+        Ok(n) => Filled::Bytes(n),
+        Err(_) => Filled::Failed,
     }
-    Filled::Bytes(io::count(got, buf))
 }
 
 // Reads once, to the place `done` and on.
-fn read_on(fd: i32, buf: &mut [u8], done: usize) -> Filled
+fn read_on(file: &mut File, buf: &mut [u8], done: usize) -> Filled
     requires { done ≤ length buf.old }
     ensures { Fits (length buf.old - done) result }
 {
-    read_once(fd, &mut buf[done..])
+    read_once(file, &mut buf[done..])
 }
 
 // Reads until the buffer is full or the file ends.
-fn fill(fd: i32, buf: &mut [u8]) -> Filled
+fn fill(file: &mut File, buf: &mut [u8]) -> Filled
     ensures { Fits (length buf.old) result }
 {
     let mut done: usize = 0;
     while done < buf.len() {
-        let Filled::Bytes(n) = read_on(fd, &mut *buf, done) else {
+        let Filled::Bytes(n) = read_on(&mut *file, &mut *buf, done) else {
             return Filled::Failed;
         };
         if n == 0 {
@@ -64,29 +65,29 @@ fn words_of(buf: &[u8], words: &mut [u64]) -> Loaded
 }
 
 // As many words as the buffer holds, or 0 at the end of the file.
-fn load_some(fd: i32, buf: &mut [u8], words: &mut [u64]) -> Loaded
+fn load_some(file: &mut File, buf: &mut [u8], words: &mut [u64]) -> Loaded
     ensures { Within (length words.old) result }
 {
-    let Filled::Bytes(n) = fill(fd, &mut *buf) else {
+    let Filled::Bytes(n) = fill(file, &mut *buf) else {
         return Loaded::Unreadable;
     };
     words_of(&buf[..n], words)
 }
 
 // The same, to the place n of the words and on.
-fn load_on(fd: i32, buf: &mut [u8], words: &mut [u64], n: usize) -> Loaded
+fn load_on(file: &mut File, buf: &mut [u8], words: &mut [u64], n: usize) -> Loaded
     requires { n ≤ length words.old }
     ensures { Within (length words.old - n) result }
 {
-    load_some(fd, buf, &mut words[n..])
+    load_some(file, buf, &mut words[n..])
 }
 
-fn load_all(fd: i32, buf: &mut [u8], words: &mut [u64]) -> Loaded
+fn load_all(file: &mut File, buf: &mut [u8], words: &mut [u64]) -> Loaded
     ensures { Within (length words.old) result }
 {
     let mut n: usize = 0;
     loop {
-        let r = load_on(fd, &mut *buf, &mut *words, n);
+        let r = load_on(&mut *file, &mut *buf, &mut *words, n);
         let Loaded::Words(m) = r else {
             return r;
         };
@@ -98,11 +99,9 @@ fn load_all(fd: i32, buf: &mut [u8], words: &mut [u64]) -> Loaded
 }
 
 // Reads an open file to its end, and closes it.
-pub fn load_open(fd: i32, words: &mut [u64]) -> Loaded
+pub fn load_open(mut file: File, words: &mut [u64]) -> Loaded
     ensures { Within (length words.old) result }
 {
     let mut space = io::large_buffer();
-    let r = load_all(fd, &mut space, words);
-    libc::close(fd);
-    r
+    load_all(&mut file, &mut space, words)
 }

@@ -2,7 +2,9 @@
 ghost use Rattle.std.specs.Prelude.{◌≤◌, length};
 
 use crate::bytes::pack;
-use crate::{Saved, names};
+use crate::{Saved, files, names};
+use std::fs::File;
+use std::io::{Error, Write};
 
 // What became of the file that stood there.
 #[derive(Clone, Copy)]
@@ -13,21 +15,21 @@ enum Old {
 }
 
 // Writes as many words as the buffer holds, and answers how many, or 0.
-fn write_some(fd: i32, words: &[u64], buf: &mut [u8]) -> usize
+fn write_some(file: &mut File, words: &[u64], buf: &mut [u8]) -> usize
     ensures { result ≤ length words.now }
 {
     let n = pack(words, &mut *buf);
     let k = 8 * n;
-    if io::write_all(fd, &buf[..k]) {
+    if file.write_all(&buf[..k]).is_ok() {
         return n;
     }
     0
 }
 
-fn write_words(fd: i32, words: &[u64], buf: &mut [u8]) -> bool {
+fn write_words(file: &mut File, words: &[u64], buf: &mut [u8]) -> bool {
     let mut i: usize = 0;
     while i < words.len() {
-        let n = write_some(fd, &words[i..], &mut *buf);
+        let n = write_some(&mut *file, &words[i..], &mut *buf);
         if n == 0 {
             return false;
         }
@@ -37,114 +39,111 @@ fn write_words(fd: i32, words: &[u64], buf: &mut [u8]) -> bool {
 }
 
 // Writes both and syncs them.
-fn write_synced(fd: i32, head: &[u64], words: &[u64], buf: &mut [u8]) -> bool {
-    if !write_words(fd, head, &mut *buf) {
+fn write_synced(file: &mut File, head: &[u64], words: &[u64], buf: &mut [u8]) -> bool {
+    if !write_words(&mut *file, head, &mut *buf) {
         return false;
     }
-    if !write_words(fd, words, &mut *buf) {
+    if !write_words(&mut *file, words, &mut *buf) {
         return false;
     }
-    libc::fsync(fd) == 0
+    file.sync_all().is_ok()
 }
 
 // Writes both into an open file, and closes it.
-fn write_open(fd: i32, head: &[u64], words: &[u64]) -> bool {
+fn write_open(mut file: File, head: &[u64], words: &[u64]) -> bool {
     let mut space = io::large_buffer();
-    let written = write_synced(fd, head, words, &mut space);
-    if libc::close(fd) < 0 {
-        return false;
-    }
-    written
+    write_synced(&mut file, head, words, &mut space)
 }
 
 // Makes the file anew; where that fails none of it is left.
-fn write_file(name: &[u8], head: &[u64], words: &[u64]) -> bool {
-    let fd = os::open_overwrite(name);
-    if fd < 0 {
+fn write_file(rt: &HostRuntime, name: &[u8], head: &[u64], words: &[u64]) -> bool {
+    let Ok(file) = files::open_overwrite(rt, name) else {
         return false;
-    }
-    if write_open(fd, head, words) {
+    };
+    if write_open(file, head, words) {
         return true;
     }
-    os::unlink(name);
+    let _ = files::unlink(rt, name);
     false
 }
 
-fn write_new(path: &[u8], head: &[u64], words: &[u64]) -> bool {
+fn write_new(rt: &HostRuntime, path: &[u8], head: &[u64], words: &[u64]) -> bool {
     let mut name = io::buffer();
     let n = names::join(path, b".new", &mut name);
-    write_file(&name[..n], head, words)
+    write_file(rt, &name[..n], head, words)
 }
 
-fn drop_new(path: &[u8]) {
+fn drop_new(rt: &HostRuntime, path: &[u8]) {
     let mut name = io::buffer();
     let n = names::join(path, b".new", &mut name);
-    os::unlink(&name[..n]);
+    let _ = files::unlink(rt, &name[..n]);
 }
 
-fn rename_new(path: &[u8]) -> bool {
+fn rename_new(rt: &HostRuntime, path: &[u8]) -> bool {
     let mut name = io::buffer();
     let n = names::join(path, b".new", &mut name);
-    os::rename(&name[..n], path) == 0
+    files::rename(rt, &name[..n], path).is_ok()
 }
 
-fn keep_old(path: &[u8]) -> Old {
-    let mut name = io::buffer();
-    let n = names::join(path, b".1", &mut name);
-    if os::rename(path, &name[..n]) == 0 {
-        return Old::Kept;
-    }
-    if os::errno() == libc::ENOENT {
+fn not_kept(e: &Error) -> Old {
+    if files::is_missing(e) {
         return Old::Missing;
     }
     Old::Barred
 }
 
-fn put_back_old(path: &[u8]) {
+fn keep_old(rt: &HostRuntime, path: &[u8]) -> Old {
     let mut name = io::buffer();
     let n = names::join(path, b".1", &mut name);
-    os::rename(&name[..n], path);
+    match files::rename(rt, path, &name[..n]) {
+        Ok(()) => Old::Kept,
+        Err(e) => not_kept(&e),
+    }
+}
+
+fn put_back_old(rt: &HostRuntime, path: &[u8]) {
+    let mut name = io::buffer();
+    let n = names::join(path, b".1", &mut name);
+    let _ = files::rename(rt, &name[..n], path);
 }
 
 // Whether there is no file, or one that may be written: a directory is refused, and a file without the permission, which a rename would pass over.
-fn is_replaceable(path: &[u8]) -> bool {
-    let fd = os::open_update(path);
-    if fd < 0 {
-        return os::errno() == libc::ENOENT;
+fn is_replaceable(rt: &HostRuntime, path: &[u8]) -> bool {
+    match files::open_update(rt, path) {
+        Ok(_) => true,
+        Err(e) => files::is_missing(&e),
     }
-    libc::close(fd);
-    true
 }
 
 // The file that stands there is kept, and the new one takes its name.
-fn replace(path: &[u8]) -> bool {
-    match keep_old(path) {
+fn replace(rt: &HostRuntime, path: &[u8]) -> bool {
+    match keep_old(rt, path) {
         Old::Kept => {
-            if rename_new(path) {
+            if rename_new(rt, path) {
                 return true;
             }
-            put_back_old(path);
+            put_back_old(rt, path);
             false
         }
-        Old::Missing => rename_new(path),
+        Old::Missing => rename_new(rt, path),
         Old::Barred => false,
     }
 }
 
 // Saves in the open directory.
-pub fn save_in(dir: i32, path: &[u8], head: &[u64], words: &[u64]) -> Saved {
-    if !is_replaceable(path) {
+pub fn save_in(rt: &HostRuntime, dir: &File, path: &[u8], head: &[u64], words: &[u64]) -> Saved {
+    if !is_replaceable(rt, path) {
         return Saved::Failed;
     }
-    if !write_new(path, head, words) {
+    if !write_new(rt, path, head, words) {
         return Saved::Failed;
     }
-    if !replace(path) {
-        drop_new(path);
+    if !replace(rt, path) {
+        drop_new(rt, path);
         return Saved::Failed;
     }
-    if libc::fsync(dir) < 0 {
-        return Saved::Failed;
+    match dir.sync_all() {
+        Ok(()) => Saved::Done,
+        Err(_) => Saved::Failed,
     }
-    Saved::Done
 }

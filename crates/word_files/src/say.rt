@@ -1,10 +1,10 @@
 // Sentences on standard error.
-use libc::STDERR_FILENO;
+const STANDARD_ERROR: i32 = 2;
 
 // What has gathered in the buffer, to its place `at`.
 pub fn gathered(out: &[u8], at: usize) {
     if at <= out.len() {
-        io::write_all(STDERR_FILENO, &out[..at]);
+        io::write_all(STANDARD_ERROR, &out[..at]);
     }
 }
 
@@ -15,8 +15,8 @@ pub fn sentence(text: &[u8]) {
 
 // `burner: `, the file's path and the rest of the sentence.
 pub fn of_file(path: &[u8], rest: &[u8]) {
-    io::write_all(STDERR_FILENO, b"burner: ");
-    io::write_all(STDERR_FILENO, path);
-    io::write_all(STDERR_FILENO, rest);
-    io::write_all(STDERR_FILENO, b"\n");
+    io::write_all(STANDARD_ERROR, b"burner: ");
+    io::write_all(STANDARD_ERROR, path);
+    io::write_all(STANDARD_ERROR, rest);
+    io::write_all(STANDARD_ERROR, b"\n");
 }

@@ -1,0 +1,6 @@
+-- `console::walk::all_steps` is safe and ends. Each step ends further on. Assumes nothing.
+use Rattle.std.proofs.Common.{◌-◌, length}
+use Rattle.console.proofs.walk.all_steps.Given as goal
+
+abbrev pub decreases-loop-at : goal.decreases-loop-at
+decreases-loop-at l = length l.line - l.at
