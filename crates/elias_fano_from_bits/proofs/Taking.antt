@@ -1,14 +1,11 @@
 -- The walk over the ones of the source, one after the other. Assumes nothing.
 use mathlib.Core.Path.{◌≡◌, refl, sym, ap, ◌∙◌, subst⁻¹}
 use mathlib.Core.List.{List, [], ◌∷◌}
-use mathlib.Core.Logic.{⊎_elim}
 use mathlib.Core.Bool.{true}
 use Prim.Native.Nat.{ℕ, suc, ◌+◌, ◌*◌, ◌/◌, ◌%◌, ◌^◌, ◌<◌}
 use native.Mathlib.Nat.{le_refl, add-zero}
 use native.Mathlib.Numerals.{add-one}
 use native.Mathlib.Omega.{arith}
-use types.Run.{OneOf}
-use denote.Enum.Declared.{tag_of}
 use lib.ListN.{length, get_or}
 use Rattle.errors.specs.Answer.{value}
 use Rattle.broadword.specs.Bits.{count}
@@ -23,7 +20,6 @@ use Rattle.bit_vectors.specs.declared.Place.{Place}
 use Rattle.bit_vectors.specs.declared.Place.TheVariants as place
 use Rattle.bit_vectors.specs.declared.unary.Unary.{Unary}
 use Rattle.bit_vectors.specs.declared.unary.Stepped.{Stepped}
-use Rattle.bit_vectors.specs.contracts.Place.{the_type}
 use Rattle.bit_vectors.proofs.Steps as steps
 use Rattle.darray_positions.proofs.Counts.{count_few}
 use Rattle.elias_fano_from_bits.specs.Building.{Countable, OnesTaken, NextTaken}
@@ -31,8 +27,8 @@ use Rattle.elias_fano_from_bits.specs.FromBits.{ones_of}
 use Rattle.elias_fano_from_bits.proofs.Ones as ones
 
 -- a value is the answer of no case but the first
-other_place : (q : Place) (x : ℕ) → of_place q ≡ value x → OneOf (1 ∷ 2 ∷ []) (tag_of the_type q) → ⊥
-other_place (place.At y) x e k = ⊎_elim (λ h. omega arith) (λ h. omega arith) k
+other_place : (q : Place) (x : ℕ) → of_place q ≡ value x → ((y : ℕ) → q ≡ place.At y → ⊥) → ⊥
+other_place (place.At y) x e k = k y refl
 other_place place.Nothing x e k = let z : ◌≡◌ {A = ℕ} 0 1 = cc in omega arith
 other_place (place.Refused r) x e k = let z : ◌≡◌ {A = ℕ} 0 1 = cc in omega arith
 
@@ -65,7 +61,7 @@ module _ (ws : List ℕ) (len i : ℕ) (w : Unary) (a : OnesTaken ws len i w) (h
     is_step : of_stepped r ≡ step (value x) (walk_at ws len x (x + 1))
     is_step = e ∙ steps.step_ok ws len w true 1 0 (At x) a.over.ok (ap (select f len) (add-zero (count f w.from) ∙ a.before) ∙ next)
 
-    pub no_other : OneOf (1 ∷ 2 ∷ []) (tag_of the_type r.place) → ⊥
+    pub no_other : ((y : ℕ) → r.place ≡ place.At y → ⊥) → ⊥
     no_other k = other_place r.place x (ap (λ (y : Step). y.answer) is_step) k
 
     module _ (y : ℕ) (ey : r.place ≡ place.At y) where
