@@ -1,0 +1,17 @@
+-- `console_questions::walk::rest` meets its contract. Assumes nothing.
+use mathlib.Core.Path.{◌≡◌}
+use Prim.Native.Nat.{◌-◌, ◌≤◌}
+use Rattle.elias_fano.specs.Accept.{times}
+use Rattle.elias_fano_walk.specs.Walking.{WalkOver}
+use Rattle.console_text.specs.Gathered.{gathered}
+use Rattle.console_questions.specs.Questions.{with_each, nexts_from}
+use Rattle.console_questions.proofs.walk.rest.Given as goal
+
+abbrev pub invariant-loop-i : goal.invariant-loop-i
+invariant-loop-i l =
+    (l.i ≤ l.count)
+    × WalkOver l.image l.p l.w
+    × (with_each (gathered l.initial.to l.initial.out) (nexts_from (times l.image) l.initial.w.number l.count) ≡ with_each (gathered l.to l.out) (nexts_from (times l.image) l.w.number (l.count - l.i)))
+
+abbrev pub decreases-loop-i : goal.decreases-loop-i
+decreases-loop-i l = l.count - l.i
