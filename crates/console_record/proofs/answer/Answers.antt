@@ -18,7 +18,7 @@ returns-then-fits c =
     let a = c.args in
     let k = c.place_in-k in
     c.done.ensures
-    ∙ sym (command_done a.r a.s a.buffer.now k.result c.if-k-gt7.false (sym c.fits2.ensures ∙ c.if-fits.true))
+    ∙ sym (command_done a.r a.s a.buffer.now k.result c.if-k-gt7.false (sym c.fits.ensures ∙ c.if-fits.true))
     ∙ ap (λ (j : ℕ). command_of j a.r a.s a.buffer.now) k.ensures
 
 pub returns : goal.returns
@@ -26,5 +26,5 @@ unfolding commands
 returns c =
     let a = c.args in
     let k = c.place_in-k in
-    sym (command_bad a.r a.s a.buffer.now k.result c.if-k-gt7.false (sym c.fits2.ensures ∙ c.if-fits.false))
+    sym (command_bad a.r a.s a.buffer.now k.result c.if-k-gt7.false (sym c.fits.ensures ∙ c.if-fits.false))
     ∙ ap (λ (j : ℕ). command_of j a.r a.s a.buffer.now) k.ensures

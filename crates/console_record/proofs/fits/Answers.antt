@@ -19,4 +19,4 @@ pub returns-in-7 : goal.returns-in-7
 returns-in-7 c = let a = c.args in sym (fits_none a.k a.r c.in-7.is)
 
 pub returns-in_default : goal.returns-in_default
-returns-in_default c = let a = c.args in let n = c.in_default.rest in sym (fits-two a.k a.r n.0.0.0.1 n.0.0.1 n.0.1 n.1)
+returns-in_default c = let a = c.args in let n = c.in_default.in_default-own.rest in sym (fits-two a.k a.r n.0.0.0.1 n.0.0.1 n.0.1 n.1)

@@ -24,5 +24,5 @@ returns-in-2 c =
 pub returns-in_default : goal.returns-in_default
 returns-in_default c =
     let a = c.args in
-    let n = c.in_default.rest in
+    let n = c.in_default.in_default-own.rest in
     c.truth.ensures ∙ ap answers c.has_rank.ensures ∙ sym (header_rank a.k a.words.now n.0.0.1 n.0.1 n.1)

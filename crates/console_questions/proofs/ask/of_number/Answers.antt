@@ -34,5 +34,5 @@ returns-in-8 c =
 pub returns-in_default : goal.returns-in_default
 returns-in_default c =
     let a = c.args in
-    let n = c.in_default.rest in
+    let n = c.in_default.in_default-own.rest in
     c.number-in_default.ensures ∙ ap answers (c.binsearch.ensures ∙ sym (ap (query a.words.now) (question_search a.k a.a n.0.0.0.0.1 n.0.0.0.1 n.0.0.1 n.0.1 n.1)))

@@ -45,7 +45,7 @@ pub returns-in_default : goal.returns-in_default
 returns-in_default c =
     let a = c.args in
     let p = c.resume in
-    let n = c.in_default.rest in
+    let n = c.in_default.in_default-own.rest in
     ap (λ (t : Told). turn_of t a.words.now) c.pushed-in_default.ensures
     ∙ pushed-leaves a.s.builder p.result a.s a.words.now
     ∙ ap (λ (m : Made). of_push a.s m) p.ensures
