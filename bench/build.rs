@@ -1,4 +1,4 @@
-//! Links the port's static libraries, which `rt staticlib bench_exports` and `rt staticlib ffi` write, and the second peer and the port of an earlier commit where
+//! Links the port's static libraries, which `tools/build bench_exports ffi` writes, and the second peer and the port of an earlier commit where
 //! bench/run built them.
 
 fn main() {
