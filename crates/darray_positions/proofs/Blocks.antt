@@ -13,7 +13,7 @@ use Rattle.broadword.specs.Bits.{count}
 use Rattle.broadword.proofs.Count.{count_mono}
 use Rattle.bit_words.specs.Vector.{bit_over}
 use Rattle.bit_words.proofs.Runs.{bit_over_le}
-use Rattle.darray_positions.specs.Positions.{places, positions}
+use Rattle.darray_positions.specs.Positions.{positions}
 use Rattle.darray_positions.specs.Index.{pos, size, wide, spill, before}
 use Rattle.darray_positions.specs.Scan.{Position, Ahead, Inside, Spans, last_in_block}
 use Rattle.darray_positions.specs.declared.scan.Cursor.{Cursor}

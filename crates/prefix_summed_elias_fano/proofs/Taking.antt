@@ -15,7 +15,7 @@ use Rattle.errors.specs.declared.Refusal.{Refusal}
 use Rattle.elias_fano.specs.declared.image.Opened.{Opened}
 use Rattle.elias_fano.specs.declared.image.Opened.TheVariants as opened
 use Rattle.elias_fano.specs.declared.image.Parts.{Parts}
-use Rattle.elias_fano.specs.Accept.{universe, times, accepted, parts_of, no_parts, parts, of_opened, open_of}
+use Rattle.elias_fano.specs.Accept.{universe, times, accepted, parts_of, no_parts, of_opened, open_of}
 use Rattle.elias_fano.specs.Ask.{nth, read_out, filled}
 use Rattle.elias_fano.proofs.Answers.{not_open}
 use Rattle.elias_fano.proofs.Images as images

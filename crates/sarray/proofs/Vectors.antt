@@ -16,7 +16,7 @@ use Rattle.elias_fano_words.specs.Times.{unrepeated_if}
 use Rattle.elias_fano.specs.declared.image.Opened.{Opened}
 use Rattle.elias_fano.specs.declared.image.Opened.TheVariants as opened
 use Rattle.elias_fano.specs.declared.image.Parts.{Parts}
-use Rattle.elias_fano.specs.Accept.{universe, declared, pushed, ranked, times, accepted, accepted_if, parts_by, parts_of, no_parts, parts, of_opened, open_if}
+use Rattle.elias_fano.specs.Accept.{universe, declared, pushed, ranked, times, accepted, accepted_if, parts_by, parts_of, no_parts, of_opened, open_if}
 use Rattle.elias_fano.proofs.Accepting.{found, flag_eqb}
 use Rattle.elias_fano.proofs.Answers.{image_by, refused_by_lem}
 use Rattle.elias_fano.proofs.Images.{flag_one, no_times}

@@ -1,6 +1,5 @@
 -- `bench_exports::walk` is safe and ends. The invariant: it is a walk over these bits. The measure: what is left of the length from its first
 -- place not yet taken on. Assumes nothing.
-use Rattle.std.proofs.Common.{◌-◌}
 use Rattle.bench_exports.proofs.Keeps.{step_keeps}
 use Rattle.bench_exports.proofs.walk.Goals as goal
 

@@ -1,7 +1,7 @@
 -- `bit_words::last_used` meets its contract. The invariant: the words passed are 0.
 -- Assumes nothing.
 use mathlib.Core.Path.{◌≡◌}
-use Prim.Native.Nat.{ℕ, ◌-◌, ◌≤◌, ◌<◌}
+use Prim.Native.Nat.{ℕ, ◌≤◌, ◌<◌}
 use lib.ListN.{length, get_or}
 use Rattle.bit_words.proofs.last_used.Given as goal
 

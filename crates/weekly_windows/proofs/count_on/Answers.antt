@@ -1,7 +1,7 @@
 -- `weekly_windows::count_on` meets its contract. The invariant: the values before the walk are counted. The measure: how many are left.
 -- Assumes nothing.
 use mathlib.Core.Path.{refl}
-use Prim.Native.Nat.{◌-◌, ◌%◌}
+use Prim.Native.Nat.{◌%◌}
 use native.Mathlib.Omega.{arith}
 use lib.ListN.{take}
 use Rattle.broadword.proofs.Truth.{flag_le}

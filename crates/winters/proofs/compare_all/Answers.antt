@@ -1,6 +1,5 @@
 -- `winters::compare_all` meets its contract. The invariant: the words of `i` spans are written. The measure: how many spans are left.
 -- Assumes nothing.
-use Prim.Native.Nat.{◌-◌}
 use Rattle.winters.proofs.Writing as writing
 use Rattle.winters.proofs.compare_all.Goals as goal
 

@@ -1,7 +1,6 @@
 -- `winters::summarize_after` meets its contract. The invariant: the values before the walk are summed up. The measure: how many are left.
 -- Assumes nothing.
 use mathlib.Core.Path.{refl}
-use Prim.Native.Nat.{◌-◌}
 use native.Mathlib.Omega.{arith}
 use Rattle.winters.proofs.Summing as summing
 use Rattle.winters.proofs.summarize_after.Goals as goal

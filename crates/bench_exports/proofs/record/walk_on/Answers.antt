@@ -1,5 +1,5 @@
 -- `bench_exports::record::walk_on` is safe and ends. The invariant: the walk is one, and `i` is at most the number of steps. Assumes nothing.
-use Rattle.std.proofs.Common.{◌-◌, arith}
+use Rattle.std.proofs.Common.{arith}
 use Rattle.bench_exports.proofs.record.walk_on.Goals as goal
 
 pub loop-i-init : goal.loop-i-init

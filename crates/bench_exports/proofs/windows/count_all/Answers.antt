@@ -1,5 +1,5 @@
 -- `bench_exports::windows::count_all` is safe and ends. The invariant: `i` is at most the number of words. The measure: how many are left. Assumes nothing.
-use Rattle.std.proofs.Common.{◌-◌, arith}
+use Rattle.std.proofs.Common.{arith}
 use Rattle.bench_exports.proofs.windows.count_all.Goals as goal
 
 pub loop-i-init : goal.loop-i-init

@@ -75,12 +75,11 @@ loop-j-preserved c =
     let e : c.spilled-overflow.result ≡ spill P l.j =
     c.spilled-overflow.ensures ∙ ap (λ (z : ℕ). cond (leb 65536 (r.last - r.first)) z 0) c.block_size.ensures
     ∙ block.spill_is a.over_one a.words.now a.len a.n c.requires.3 l.j r (there) c.ends-s.ensures in
-    ap₂ (λ (x y : ℕ). x + y) l.invariant.1 e ∙ sym (ap (before P) (add-one l.j) ∙ index.before_next P l.j) in
-    (
-  omega (arith, c.loop-j-test.true),
-  next_before,
-  block.ahead_le _ _ _ _ (omega arith) c.ends-s.ensures.next,
-)
+    ap₂ (λ (x y : ℕ). x + y) l.invariant.1 e ∙ sym (ap (before P) (add-one l.j) ∙ index.before_next P l.j) in (
+      omega (arith, c.loop-j-test.true),
+      next_before,
+      block.ahead_le _ _ _ _ (omega arith) c.ends-s.ensures.next,
+    )
 
 pub returns : goal.returns
 returns c =

@@ -3,7 +3,7 @@
 -- Assumes nothing.
 use borrow.Author.Rules.{rules}
 use mathlib.Core.Path.{refl, ap, ◌∙◌}
-use Prim.Native.Nat.{ℕ, zero-le, ◌+◌, ◌-◌}
+use Prim.Native.Nat.{ℕ, zero-le, ◌+◌}
 use native.Mathlib.Omega.{arith}
 use lib.ListN.{length, length-replicate}
 use Rattle.darray.specs.declared.pending.Pending.{Pending}

@@ -1,7 +1,7 @@
 -- `darray_positions::scan::advance` meets its contract: the invariant says that `before` is the count below the word.
 -- Assumes nothing.
 use mathlib.Core.Path.{ap, ◌∙◌}
-use Prim.Native.Nat.{ℕ, ◌-◌}
+use Prim.Native.Nat.{ℕ}
 use native.Mathlib.Nat.{le_refl}
 use native.Mathlib.Omega.{arith}
 use Rattle.broadword.specs.Bits.{ones}

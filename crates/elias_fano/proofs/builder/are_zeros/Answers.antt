@@ -1,7 +1,6 @@
 -- `elias_fano::builder::are_zeros` meets its contract. The invariant: the words from `i` on are zeros if all are. The measure: how many are left.
 -- Assumes nothing.
 use mathlib.Core.Path.{refl, sym, ◌∙◌}
-use Prim.Native.Nat.{◌-◌}
 use native.Mathlib.Omega.{arith}
 use Rattle.elias_fano.proofs.Resuming as resuming
 use Rattle.elias_fano.proofs.builder.are_zeros.Goals as goal

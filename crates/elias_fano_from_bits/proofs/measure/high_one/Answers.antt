@@ -6,11 +6,10 @@ use Rattle.elias_fano_from_bits.proofs.Marks as marks
 use Rattle.elias_fano_from_bits.proofs.measure.high_one.Goals as goal
 
 pub find_within-place-requires : goal.find_within-place-requires
-find_within-place-requires c =
-    (
-      marks.findable c.args.words.now c.args.len c.args.l c.args.k c.args.from c.requires.0 _ c.words_for-used.ensures _ c.requires.1,
-      marks.ahead c.args.words.now c.args.len c.args.l c.args.k c.args.from c.requires.0 _ c.words_for-used.ensures,
-    )
+find_within-place-requires c = (
+  marks.findable c.args.words.now c.args.len c.args.l c.args.k c.args.from c.requires.0 _ c.words_for-used.ensures _ c.requires.1,
+  marks.ahead c.args.words.now c.args.len c.args.l c.args.k c.args.from c.requires.0 _ c.words_for-used.ensures,
+)
 
 pub overflow_shr-result : goal.overflow_shr-result
 overflow_shr-result c = let q = highs.low_small c.args.words.now c.args.len c.requires.0.countable in omega (arith, c.requires.0.low)

@@ -10,13 +10,12 @@ pub bucket_end-requires : goal.bucket_end-requires
 bucket_end-requires c = let q = highs.low_small c.args.words.now c.args.len c.requires.countable in omega (arith, c.requires.low)
 
 pub mark_at-mark-requires : goal.mark_at-mark-requires
-mark_at-mark-requires c =
-    (
-      c.requires.marked,
-      (valid c.args.words.now c.args.len c.requires.countable.valid).room,
-      marks.zero_after c.args.words.now c.args.len c.args.l c.args.k c.args.from c.requires _ c.bucket_end.ensures,
-      marks.zero_upto c.args.words.now c.args.len c.args.l c.args.k c.args.from c.requires _ c.bucket_end.ensures,
-    )
+mark_at-mark-requires c = (
+  c.requires.marked,
+  (valid c.args.words.now c.args.len c.requires.countable.valid).room,
+  marks.zero_after c.args.words.now c.args.len c.args.l c.args.k c.args.from c.requires _ c.bucket_end.ensures,
+  marks.zero_upto c.args.words.now c.args.len c.args.l c.args.k c.args.from c.requires _ c.bucket_end.ensures,
+)
 
 pub overflow_add-result : goal.overflow_add-result
 overflow_add-result c =

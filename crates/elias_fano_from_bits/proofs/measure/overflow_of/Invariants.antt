@@ -3,7 +3,7 @@
 -- Assumes nothing.
 use mathlib.Core.Path.{◌≡◌}
 use Prim.Native.Nat.{◌-◌, ◌*◌, ◌≤◌}
-use Rattle.darray_positions.specs.Index.{blocks, before}
+use Rattle.darray_positions.specs.Index.{before}
 use Rattle.elias_fano_from_bits.specs.Building.{positions_of, Marked, Upto}
 use Rattle.elias_fano_from_bits.proofs.measure.overflow_of.Given as goal
 

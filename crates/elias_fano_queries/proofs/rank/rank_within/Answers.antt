@@ -1,6 +1,6 @@
 -- `elias_fano_queries::rank::rank_within` meets its contract.
 -- Assumes nothing.
-use Prim.Native.Nat.{ℕ, ◌+◌, ◌-◌, ◌/◌, ◌^◌, ◌<◌}
+use Prim.Native.Nat.{◌+◌, ◌-◌, ◌/◌, ◌^◌}
 use native.Mathlib.Nat.{le_of_lt}
 use native.Mathlib.Omega.{arith}
 use lib.Bits.{and_le_l}
@@ -8,7 +8,6 @@ use lib.Pow.{shr_mono}
 use Rattle.bit_words.proofs.Runs.{bit_at_le}
 use Rattle.elias_fano.proofs.Selecting as selecting
 use Rattle.elias_fano.specs.Opening.{high_part}
-use Rattle.elias_fano_queries.specs.Demands.{IsOpen}
 use Rattle.elias_fano_queries.proofs.Opened as opened
 use Rattle.elias_fano_queries.proofs.Ranking as ranking
 use Rattle.elias_fano_queries.proofs.Ranking.{is_open}

@@ -1,7 +1,6 @@
 -- `elias_fano_walk::read::take_all` meets its contract. The invariant: `i` values are written. The measure: how many are left.
 -- Assumes nothing.
 use native.Mathlib.Omega.{arith}
-use Prim.Native.Nat.{◌-◌}
 use Rattle.elias_fano_walk.proofs.Reading as reading
 use Rattle.elias_fano_walk.proofs.read.take_all.Goals as goal
 

@@ -1,5 +1,5 @@
 -- `elias_fano_walk::search::halve_high` meets its contract. Assumes nothing.
-use Rattle.std.proofs.Common.{ℕ, ◌+◌, ◌-◌, ◌*◌, ◌/◌, ◌<◌, true, false, ltb, refl, arith}
+use Rattle.std.proofs.Common.{◌+◌, ◌-◌, ◌*◌, ◌/◌, ◌<◌, true, false, ltb, refl, arith}
 use borrow.Author.Tests.{lt-ltb, le-ltb}
 use Rattle.bit_words.specs.Vector.{bit_over}
 use Rattle.bit_words.proofs.Runs.{bit_over_le}

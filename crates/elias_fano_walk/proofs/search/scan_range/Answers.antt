@@ -1,6 +1,5 @@
 -- `elias_fano_walk::search::scan_range` meets its contract. The invariant: to go on from `i` gives what going on from the start gives. The measure:
 -- what is left of the range. Assumes nothing.
-use Prim.Native.Nat.{◌-◌}
 use native.Mathlib.Omega.{arith}
 use Rattle.elias_fano_walk.proofs.Searched as searched
 use Rattle.elias_fano_walk.proofs.search.scan_range.Goals as goal

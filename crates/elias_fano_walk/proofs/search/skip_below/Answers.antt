@@ -1,7 +1,6 @@
 -- `elias_fano_walk::search::skip_below` meets its contract. The invariant: the values before the walk are below `val`. The measure: how many are left.
 -- Assumes nothing.
 use mathlib.Core.Path.{refl}
-use Prim.Native.Nat.{◌-◌}
 use native.Mathlib.Omega.{arith}
 use Rattle.elias_fano_walk.proofs.Searched as searched
 use Rattle.elias_fano_walk.proofs.search.skip_below.Goals as goal

@@ -1,7 +1,7 @@
 -- `prefix_summed_elias_fano::build::add_up` meets its contract: the invariant says that `sum` is that of the items before i.
 -- Assumes nothing.
 use mathlib.Core.Path.{◌≡◌, sym, ap, ◌∙◌}
-use Prim.Native.Nat.{ℕ, suc, ◌+◌, ◌-◌}
+use Prim.Native.Nat.{ℕ, suc, ◌+◌}
 use native.Mathlib.Omega.{arith}
 use lib.ListN.{get_or, take}
 use Rattle.prefix_summed_elias_fano.specs.Sums.{sum as sum_of}

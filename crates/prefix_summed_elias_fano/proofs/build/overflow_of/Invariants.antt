@@ -4,7 +4,7 @@ use mathlib.Core.Path.{◌≡◌}
 use mathlib.Core.Bool.{true}
 use Prim.Native.Nat.{suc, ◌-◌, ◌*◌, ◌≤◌}
 use lib.ListN.{length, take}
-use Rattle.darray_positions.specs.Index.{blocks, before}
+use Rattle.darray_positions.specs.Index.{before}
 use Rattle.elias_fano_words.specs.Image.{high_positions}
 use Rattle.prefix_summed_elias_fano.specs.Sums.{sum as sum_of, sums}
 use Rattle.prefix_summed_elias_fano.proofs.build.overflow_of.Given as goal

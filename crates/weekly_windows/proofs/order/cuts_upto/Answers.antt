@@ -1,6 +1,5 @@
 -- `weekly_windows::order::cuts_upto` meets its contract. The invariant: the cuts before `k` are at or below `r`. The measure: how many are left.
 -- Assumes nothing.
-use Prim.Native.Nat.{◌-◌}
 use native.Mathlib.Omega.{arith}
 use Rattle.weekly_windows.proofs.Cutting as cutting
 use Rattle.weekly_windows.proofs.order.cuts_upto.Goals as goal

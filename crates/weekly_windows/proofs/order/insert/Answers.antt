@@ -1,6 +1,5 @@
 -- `weekly_windows::order::insert` meets its contract. The invariant: what is written, and the rest with the window that goes on, are the windows with the new one.
 -- The measure: what is left of the words. Assumes nothing.
-use Prim.Native.Nat.{◌-◌}
 use native.Mathlib.Omega.{arith}
 use Rattle.weekly_windows.proofs.Inserting as inserting
 use Rattle.weekly_windows.proofs.order.insert.Goals as goal

@@ -1,6 +1,5 @@
 -- `weekly_windows::order::order` meets its contract. The invariant: the first `i` words are in order. The measure: how many words are left.
 -- Assumes nothing.
-use Prim.Native.Nat.{◌-◌}
 use native.Mathlib.Omega.{arith}
 use Rattle.weekly_windows.proofs.Inserting as inserting
 use Rattle.weekly_windows.proofs.order.order.Goals as goal

@@ -1,6 +1,5 @@
 -- `weekly_windows::order::part_starts` meets its contract. The invariant: the first `q` parts have their starts. The measure: how many parts are left.
 -- Assumes nothing.
-use Prim.Native.Nat.{◌-◌}
 use native.Mathlib.Omega.{arith}
 use Rattle.weekly_windows.proofs.Cutting as cutting
 use Rattle.weekly_windows.proofs.order.part_starts.Goals as goal
