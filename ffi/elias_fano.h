@@ -1,8 +1,7 @@
 /* A monotone sequence (Elias-Fano) in words that the caller lends: write a record, finish it, ask it.
  *
- * Link with target/staticlib/libffi.a (`tools/build ffi` writes it, for x86-64-v2; `bench/staticlib . x86-64 ffi` for every
- * x86-64). It needs memcpy and memset of the C library and, as measured with the kit before today's, up to 23,152 bytes of stack
- * (docs/DATASHEET.md has them call by call).
+ * Link with target/staticlib/libffi.a (`tools/build ffi` writes it; x86-64). It needs memcpy and memset of the C library and, as
+ * measured with the kit before today's, up to 23,152 bytes of stack (docs/DATASHEET.md has them call by call).
  *
  * Words. A word is 64 bits. Every buffer belongs to the caller: no function keeps a pointer, allocates or frees. A call reads and
  * writes only the `len` words from the pointer on, and only while it runs. A pointer must be aligned to 8 bytes; with `len` 0 it is not
