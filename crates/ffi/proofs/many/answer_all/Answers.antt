@@ -1,6 +1,5 @@
 -- `ffi::many::answer_all` meets its contract. The invariant: `i` arguments are answered. The measure: how many are left.
 -- Assumes nothing.
-use Prim.Native.Nat.{◌-◌}
 use Rattle.ffi.proofs.Answering as answering
 use Rattle.ffi.proofs.many.answer_all.Goals as goal
 
