@@ -57,7 +57,14 @@ fn command(rt: &HostRuntime, words: &mut [u64; 524288], out: &mut [u8; 65536]) -
     }
 }
 
-// The exit status that a command answers.
+// Answers the exit status. Everything is on the stack: the words, of which a file may have as many, and the output.
+pub fn burner(rt: &HostRuntime) -> i32 {
+    let mut words = [0u64; 524288];
+    let mut out = [0u8; 65536];
+    command(rt, &mut words, &mut out)
+}
+
+// The exit status, for the system.
 fn ended(status: i32) -> ExitCode {
     match status {
         0 => ExitCode::SUCCESS,
@@ -66,9 +73,6 @@ fn ended(status: i32) -> ExitCode {
     }
 }
 
-// Everything is on the stack: the words, of which a file may have as many, and the output.
 fn main(rt: HostRuntime) -> ExitCode {
-    let mut words = [0u64; 524288];
-    let mut out = [0u8; 65536];
-    ended(command(&rt, &mut words, &mut out))
+    ended(burner(&rt))
 }
