@@ -1,4 +1,7 @@
 // The system's files, by names of bytes. The library's paths are text: a name that is no UTF-8 text is one that cannot be opened.
+ghost use Rattle.std.specs.Prelude.{◌≡◌, ◌↔◌, IsTrue};
+ghost use Rattle.std.specs.IoError.{error_kind};
+
 use std::fs;
 use std::fs::{File, OpenOptions};
 use std::io::{Error, ErrorKind};
@@ -11,7 +14,9 @@ fn text(path: &[u8]) -> Result<&str, Error> {
 }
 
 // Whether a call failed because there is no such file.
-pub fn is_missing(e: &Error) -> bool {
+pub fn is_missing(e: &Error) -> bool
+    ensures { IsTrue result ↔ (error_kind e.now ≡ ErrorKind.NotFound) }
+{
     e.kind() == ErrorKind::NotFound
 }
 

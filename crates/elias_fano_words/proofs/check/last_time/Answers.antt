@@ -11,7 +11,7 @@ overflow_sub-upper c =
 
 pub returns-then-universe-l : goal.returns-then-universe-l
 returns-then-universe-l c =
-    last-time.too_high c.args.high.now c.args.low.now c.args.universe c.args.l (c.args.m - 1) c.last_one.result c.ranges.universe.fits c.requires.narrow c.last_one.ensures c.if-universe-l.true
+    last-time.too_high c.args.high.now c.args.low.now c.args.universe c.args.l (c.args.m - 1) c.last_one.result c.ranges.universe.fits c.requires.narrow c.last_one.ensures (omega arith)
 
 pub low_at-requires : goal.low_at-requires
 low_at-requires c =
