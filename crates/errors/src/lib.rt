@@ -4,65 +4,60 @@
 ghost use Rattle.std.specs.Prelude.{◌≡◌};
 ghost use Rattle.errors.specs.Refusal.{number_of};
 
-#[derive(Clone, Copy)]
+use std::error::Error;
+use std::fmt;
+
+// Each has its number in documents 01 and 02.
+#[derive(Clone, Copy, Debug, PartialEq, Eq)]
 pub enum Refusal {
     // No values are declared.
-    NoValues,
+    NoValues = 1,
     // More values, ones or items than a record may have.
-    TooMany,
+    TooMany = 2,
     // The lent buffer is too short.
-    ShortBuffer,
+    ShortBuffer = 3,
     // A value is below the last one.
-    Decreasing,
+    Decreasing = 4,
     // A value is not below the universe.
-    OutOfUniverse,
+    OutOfUniverse = 5,
     // As many values as declared are there.
-    Full,
+    Full = 6,
     // No such image or builder.
-    Invalid,
+    Invalid = 7,
     // A question needs the rank index, and the image has none.
-    NoRankIndex,
+    NoRankIndex = 8,
     // A range that is not empty ends past the values.
-    RangeOutOfBounds,
+    RangeOutOfBounds = 9,
     // There are no bits.
-    NoBits,
+    NoBits = 10,
     // No bit is set.
-    NoOnes,
+    NoOnes = 11,
     // The sum of the items is too large.
-    SumTooLarge,
+    SumTooLarge = 12,
     // The length needs more words than are lent, or a bit past it is set.
-    InvalidBits,
+    InvalidBits = 13,
     // More than 64 bits are pushed at once.
-    WideBits,
+    WideBits = 14,
     // The pushed bits do not fit.
-    NoRoom,
+    NoRoom = 15,
     // A place lies past the bits.
-    OutOfBounds,
+    OutOfBounds = 16,
     // The words are not windows of a week, or more than 32 of them.
-    InvalidWindows,
+    InvalidWindows = 17,
 }
 
-// The refusal's number in documents 01 and 02.
-pub fn number(r: Refusal) -> u64
-    ensures { result ≡ number_of r }
-{
-    match r {
-        Refusal::NoValues => 1,
-        Refusal::TooMany => 2,
-        Refusal::ShortBuffer => 3,
-        Refusal::Decreasing => 4,
-        Refusal::OutOfUniverse => 5,
-        Refusal::Full => 6,
-        Refusal::Invalid => 7,
-        Refusal::NoRankIndex => 8,
-        Refusal::RangeOutOfBounds => 9,
-        Refusal::NoBits => 10,
-        Refusal::NoOnes => 11,
-        Refusal::SumTooLarge => 12,
-        Refusal::InvalidBits => 13,
-        Refusal::WideBits => 14,
-        Refusal::NoRoom => 15,
-        Refusal::OutOfBounds => 16,
-        Refusal::InvalidWindows => 17,
+impl From<Refusal> for u64 {
+    ghost from_gives = { λ r n. n ≡ number_of r };
+
+    fn from(r: Refusal) -> u64 {
+        r as u64
     }
 }
+
+impl fmt::Display for Refusal {
+    fn fmt<W: fmt::Write>(&self, f: &mut fmt::Formatter<W>) -> fmt::Result {
+        write!(f, "refused {}", u64::from(*self))
+    }
+}
+
+impl Error for Refusal {}
