@@ -1,20 +1,16 @@
 -- A walk stays a walk: `new` begins one, and a step that gives a place leaves one, further on. Assumes nothing.
+use Rattle.std.specs.Prelude.{Ok, Some, None, Option}
 use Rattle.std.proofs.Common.{◌≡◌, ℕ, ◌+◌, ◌-◌, ◌/◌, ◌<◌, ◌≤◌, Bool, true, false, leb, List, sym, refl, ap, ◌∙◌, subst, le_refl, lt_of_not-le, add-one, arith}
 use native.Mathlib.Decide.{dec_lt}
-use Rattle.errors.specs.Answer.{value, none}
+use Rattle.errors.specs.Answer.{value, none, of_optional}
 use Rattle.broadword.specs.Bits.{count}
 use Rattle.broadword.specs.Places.{select}
-use Rattle.broadword.specs.declared.Found.{Found}
-use Rattle.broadword.specs.declared.Found.TheVariants.{At, Nothing}
 use Rattle.broadword.proofs.Count.{count_mono}
 use Rattle.broadword.proofs.Find.{selected}
 use Rattle.bit_words.specs.Vector.{bit_over, words_for, invalid}
-use Rattle.bit_vectors.specs.Queries.{of_place}
 use Rattle.bit_vectors.specs.Walk.{begun, refused_by, of_started, Step, of_stepped, walk_at, given, walk_new_of, next_of, Walking}
-use Rattle.bit_vectors.specs.declared.Place.TheVariants as place
 use Rattle.bit_vectors.specs.declared.unary.Unary.{Unary}
 use Rattle.bit_vectors.specs.declared.unary.Stepped.{Stepped}
-use Rattle.bit_vectors.specs.declared.unary.Started.TheVariants as started
 use Rattle.bit_vectors.proofs.Steps.{step_ok}
 
 -- a place with as many ones before it as `from`, which is a one, does not lie below `from`
@@ -36,28 +32,28 @@ module _ (ws : List ℕ) (len : ℕ) where
   pub step_keeps : (w : Unary) (r : Stepped) (p : ℕ)
       → Walking ws len w
       → of_stepped r ≡ next_of ws len w
-      → r.place ≡ place.At p
+      → r.place ≡ (Ok (Some p))
       → Walking ws len r.walk × (len - r.walk.from < len - w.from)
   step_keeps w r p h e a = go (select (bit_over true ws) len (count (bit_over true ws) w.from + 0)) refl
     where
-      go : (x : Found)
+      go : (x : Option ℕ)
           → select (bit_over true ws) len (count (bit_over true ws) w.from + 0) ≡ x
           → Walking ws len r.walk × (len - r.walk.from < len - w.from)
-      go (At q) s =
-          let t : of_stepped r ≡ given ws len 1 (At q) = e ∙ step_ok ws len w true 1 0 (At q) h.ok s in
+      go (Some q) s =
+          let t : of_stepped r ≡ given ws len 1 (Some q) = e ∙ step_ok ws len w true 1 0 (Some q) h.ok s in
           let v : walk_at ws len q (q + 1) ≡ r.walk = sym (ap (λ (y : Step). y.walk) t) in
           let y = selected (bit_over true ws) len (count (bit_over true ws) w.from + 0) q s in
           let o = onward (bit_over true ws) w.from q y.one y.before in
           let l : q < len = y.within in
           subst (λ (u : Unary). Walking ws len u × (len - u.from < len - w.from)) v (at q (q + 1) h.ok (omega arith) (le_refl (q + 1)), omega arith)
-      go Nothing s =
-          let t : of_stepped r ≡ given ws len 1 Nothing = e ∙ step_ok ws len w true 1 0 Nothing h.ok s in
-          let v : of_place r.place ≡ none = ap (λ (y : Step). y.answer) t in
-          let u : of_place r.place ≡ value p = ap of_place a in
+      go None s =
+          let t : of_stepped r ≡ given ws len 1 None = e ∙ step_ok ws len w true 1 0 None h.ok s in
+          let v : of_optional r.place ≡ none = ap (λ (y : Step). y.answer) t in
+          let u : of_optional r.place ≡ value p = ap of_optional a in
           let z : ◌≡◌ {A = ℕ} 0 1 = cc in
           absurd (omega arith)
 
-  pub new_keeps : (start : ℕ) (w : Unary) → of_started (started.Walk w) ≡ walk_new_of ws len start → Walking ws len w
+  pub new_keeps : (start : ℕ) (w : Unary) → of_started (Ok w) ≡ walk_new_of ws len start → Walking ws len w
   unfolding walk_new_of
   new_keeps start w e = go (invalid ws len) refl
     where

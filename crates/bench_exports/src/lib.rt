@@ -6,7 +6,6 @@
 #![tactic(auto)]
 
 ghost use Rattle.std.specs.Prelude.{ℕ, List};
-ghost use Rattle.broadword.specs.Places.{SelectInByte, Debruijn64};
 ghost use Rattle.bit_vectors.specs.Walk.{Walking};
 ghost use Rattle.darray.specs.Select.{Indexed};
 
@@ -14,25 +13,22 @@ mod record;
 mod windows;
 
 use bit_vectors::bit_vector::{predecessor1, rank1, select1};
-use bit_vectors::unary::{Started, Unary, new, next_within};
-use bit_vectors::{Count, Place};
-use broadword::{
-    Found, debruijn64_table, lsb, msb, popcount, select_in_byte_table, select_in_word,
-    select_in_word_by,
-};
-use darray::inner::{Built, build};
+use bit_vectors::unary::{Unary, new, next_within};
+use broadword::{lsb, msb, popcount, select_in_word};
+use darray::inner::build;
 use darray::select::select;
 use std::num::wrapping_add_u64;
+use errors::Refusal;
 
 fn wide(x: usize) -> u64 {
     x as u64
 }
 
 // A place, or what a none counts as.
-fn place_or(found: Found, none: usize) -> u64 {
+fn place_or(found: Option<usize>, none: usize) -> u64 {
     match found {
-        Found::At(i) => wide(i),
-        Found::Nothing => wide(none),
+        Some(i) => wide(i),
+        None => wide(none),
     }
 }
 
@@ -75,7 +71,6 @@ pub extern "C" fn bench_msb(words: &[u64]) -> u64 {
 // In each word, the one that as many stand before as the second slice says: the table is made once and lent.
 #[unsafe(no_mangle)]
 pub extern "C" fn bench_select_in_word_by(words: &[u64], ks: &[usize]) -> u64 {
-    let table = select_in_byte_table();
     let mut sum: u64 = 0;
     let mut i: usize = 0;
     while i < words.len() {
@@ -84,7 +79,7 @@ pub extern "C" fn bench_select_in_word_by(words: &[u64], ks: &[usize]) -> u64 {
         }
         sum = wrapping_add_u64(
             sum,
-            place_or(select_in_word_by(&table, words[i], ks[i]), 64),
+            place_or(select_in_word(words[i], ks[i]), 64),
         );
         i += 1;
     }
@@ -106,19 +101,19 @@ pub extern "C" fn bench_select_in_word(words: &[u64], ks: &[usize]) -> u64 {
     sum
 }
 
-fn count_or(count: Count, none: usize) -> u64 {
+fn count_or(count: Result<Option<usize>, Refusal>, none: usize) -> u64 {
     match count {
-        Count::Ones(n) => wide(n),
-        Count::Nothing => wide(none),
-        Count::Refused(_) => 0,
+        Ok(Some(n)) => wide(n),
+        Ok(None) => wide(none),
+        Err(_) => 0,
     }
 }
 
-fn bit_place_or(place: Place, none: usize) -> u64 {
+fn bit_place_or(place: Result<Option<usize>, Refusal>, none: usize) -> u64 {
     match place {
-        Place::At(i) => wide(i),
-        Place::Nothing => wide(none),
-        Place::Refused(_) => 0,
+        Ok(Some(i)) => wide(i),
+        Ok(None) => wide(none),
+        Err(_) => 0,
     }
 }
 
@@ -159,15 +154,15 @@ pub extern "C" fn bench_predecessor1(words: &[u64], len: usize, places: &[usize]
 }
 
 // The sum of all places that the walk gives.
-fn walk(words: &[u64], len: usize, start: Unary, table: &[u8; 64]) -> u64
-    requires { Walking words.now len start × Debruijn64 table.now }
+fn walk(words: &[u64], len: usize, start: Unary) -> u64
+    requires { Walking words.now len start }
 {
     let mut w = start;
     let mut sum: u64 = 0;
     loop {
-        let s = next_within(words, len, w, table);
+        let s = next_within(words, len, w);
         let place = s.place;
-        let Place::At(p) = place else {
+        let Ok(Some(p)) = place else {
             break;
         };
         sum = wrapping_add_u64(sum, wide(p));
@@ -180,19 +175,18 @@ fn walk(words: &[u64], len: usize, start: Unary, table: &[u8; 64]) -> u64
 // A walk over all ones. The table is made once and lent.
 #[unsafe(no_mangle)]
 pub extern "C" fn bench_walk(words: &[u64], len: usize) -> u64 {
-    let Started::Walk(w) = new(words, len, 0) else {
+    let Ok(w) = new(words, len, 0) else {
         return 0;
     };
-    let table = debruijn64_table();
-    walk(words, len, w, &table)
+    walk(words, len, w)
 }
 
 // The index over the ones or the zeros: how many words it has.
 #[unsafe(no_mangle)]
 pub extern "C" fn bench_build(words: &[u64], len: usize, over_one: bool, out: &mut [u64]) -> u64 {
     match build(words, len, over_one, &mut *out) {
-        Built::Words(n) => wide(n),
-        Built::Refused(_) => 0,
+        Ok(n) => wide(n),
+        Err(_) => 0,
     }
 }
 
@@ -206,16 +200,15 @@ pub extern "C" fn bench_select(
     positions: usize,
     ks: &[usize],
 ) -> u64
-    requires { (t : List ℕ) → SelectInByte t → Indexed words.now len over_one index.now positions t }
+    requires { (t : List ℕ) →  t → Indexed words.now len over_one index.now positions t }
 {
-    let table = select_in_byte_table();
     let mut sum: u64 = 0;
     let mut i: usize = 0;
     while i < ks.len() {
         sum = wrapping_add_u64(
             sum,
             place_or(
-                select(words, len, over_one, index, positions, &table, ks[i]),
+                select(words, len, over_one, index, positions, ks[i]),
                 len,
             ),
         );

@@ -1,4 +1,5 @@
 -- The cases of each question's definition, one law to a case: the proofs cite them at each `return`. Assumes nothing.
+use Rattle.std.specs.Prelude.{Option}
 use mathlib.Core.Path.{◌≡◌, ap, ◌∙◌}
 use mathlib.Core.List.{List, ◌++◌}
 use mathlib.Core.Bool.{Bool, true, false, cond}
@@ -6,13 +7,12 @@ use Prim.Native.Nat.{ℕ, ◌+◌, ◌-◌, ◌*◌, ◌/◌, ◌%◌, ◌^◌, 
 use borrow.Author.Tests.{le-ltb, lt-ltb, le-leb, lt-leb}
 use lib.Dec.{leb}
 use lib.ListN.{length, get_or, set, take, drop}
-use Rattle.errors.specs.Answer.{Answer, value, none, done, refused, leaves}
+use Rattle.errors.specs.Answer.{Answer, value, none, done, refused, leaves, of_option}
 use Rattle.broadword.specs.Bits.{count}
 use Rattle.broadword.specs.Fields.{flag, word}
 use Rattle.broadword.specs.Places.{last, select}
-use Rattle.broadword.specs.declared.Found.{Found}
 use Rattle.bit_words.specs.Vector.{bit_at, bit_over, words_for, invalid, number_words, put_bit, appended}
-use Rattle.bit_vectors.specs.Queries.{of_found, if_valid, access_of, get_bits_of, get_word64_of, rank1_of, num_ones_of, select_bit_of, predecessor1_of, set_bit_of, push_bits_of, from_bit_of}
+use Rattle.bit_vectors.specs.Queries.{if_valid, access_of, get_bits_of, get_word64_of, rank1_of, num_ones_of, select_bit_of, predecessor1_of, set_bit_of, push_bits_of, from_bit_of}
 
 module _ (ws : List ℕ) (len : ℕ) where
   if_valid_13 : (a : Answer) → invalid ws len ≡ true → if_valid ws len a ≡ refused 13
@@ -107,17 +107,17 @@ module _ (ws : List ℕ) (len : ℕ) where
   unfolding select_bit_of
   select_13 b k e = if_valid_13 _ e
 
-  pub select_ok : (b : Bool) (k : ℕ) (a : Found) → invalid ws len ≡ false → select (bit_over b ws) len k ≡ a → select_bit_of ws len b k ≡ of_found a
+  pub select_ok : (b : Bool) (k : ℕ) (a : Option ℕ) → invalid ws len ≡ false → select (bit_over b ws) len k ≡ a → select_bit_of ws len b k ≡ of_option a
   unfolding select_bit_of
-  select_ok b k a e h = if_valid_ok _ e ∙ ap of_found h
+  select_ok b k a e h = if_valid_ok _ e ∙ ap of_option h
 
   pub predecessor1_13 : (pos : ℕ) → invalid ws len ≡ true → predecessor1_of ws len pos ≡ refused 13
   unfolding predecessor1_of
   predecessor1_13 pos e = if_valid_13 _ e
 
-  pub predecessor1_ok : (pos end : ℕ) (a : Found) → invalid ws len ≡ false → min (pos + 1) len ≡ end → last (bit_at ws) end ≡ a → predecessor1_of ws len pos ≡ of_found a
+  pub predecessor1_ok : (pos end : ℕ) (a : Option ℕ) → invalid ws len ≡ false → min (pos + 1) len ≡ end → last (bit_at ws) end ≡ a → predecessor1_of ws len pos ≡ of_option a
   unfolding predecessor1_of
-  predecessor1_ok pos end a e h l = if_valid_ok _ e ∙ ap of_found (ap (last (bit_at ws)) h ∙ l)
+  predecessor1_ok pos end a e h l = if_valid_ok _ e ∙ ap of_option (ap (last (bit_at ws)) h ∙ l)
 
 -- ---- calls that alter words
 

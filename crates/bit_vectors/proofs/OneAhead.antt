@@ -1,4 +1,5 @@
 -- What a walk finds from a place on: in the rest of its word, and in the words after it. Assumes nothing.
+use Rattle.std.specs.Prelude.{Some, None}
 use mathlib.Core.Path.{◌≡◌, refl, sym, ap, ap₂, ◌∙◌, subst, subst⁻¹}
 use mathlib.Core.List.{List}
 use mathlib.Core.Bool.{true}
@@ -14,7 +15,6 @@ use lib.Pow.{pow_pos, pow-add, pow_mono, ones_lt, shr-shr, split}
 use lib.Seq.{get_or-take, length-take-le}
 use Rattle.broadword.specs.Bits.{bit, count, ones}
 use Rattle.broadword.specs.Places.{select}
-use Rattle.broadword.specs.declared.Found.TheVariants.{At, Nothing}
 use Rattle.broadword.proofs.Count.{bit-above, count_zero, count_mono}
 use Rattle.broadword.proofs.Find.{selected, select_at, select_none}
 use Rattle.broadword.proofs.Lowest.{odd_times, bit-one, none_below, short}
@@ -45,7 +45,7 @@ one_below ws len i t v h l o = go (dec_lt (i * 64 + t) len)
 
 -- ---- the lowest one
 
-pub lowest_none : (x : ℕ) → x < 2 ^ 64 → select (bit x) 64 0 ≡ Nothing → x ≡ 0
+pub lowest_none : (x : ℕ) → x < 2 ^ 64 → select (bit x) 64 0 ≡ None → x ≡ 0
 lowest_none x h e = go (ℕ_discrete x 0)
   where
     go : Dec (x ≡ 0) → x ≡ 0
@@ -59,10 +59,10 @@ lowest_none x h e = go (ℕ_discrete x 0)
 pub zero_ones : (n : ℕ) → ones 0 n ≡ 0
 zero_ones n = count_zero (bit 0) n (λ i _. bit-above 0 i (pow_pos i))
 
-pub lowest_zero : (t : ℕ) → select (bit 0) 64 0 ≡ At t → ⊥
+pub lowest_zero : (t : ℕ) → select (bit 0) 64 0 ≡ Some t → ⊥
 lowest_zero t e = let o = (selected (bit 0) 64 0 t e).one in let z = bit-above 0 t (pow_pos t) in omega arith
 
-pub lowest_pos : (x t : ℕ) → select (bit x) 64 0 ≡ At t → 1 ≤ x
+pub lowest_pos : (x t : ℕ) → select (bit x) 64 0 ≡ Some t → 1 ≤ x
 lowest_pos x t e = go (ℕ_discrete x 0)
   where
     go : Dec (x ≡ 0) → 1 ≤ x
@@ -75,7 +75,7 @@ and_even m =
     ∙ ap (λ (a : ℕ). a * 2 + 0) (and_self m) ∙ add-zero (m * 2)
 
 -- without it
-pub lowest_cleared : (x t : ℕ) → x < 2 ^ 64 → select (bit x) 64 0 ≡ At t → bit_and x (x - 1) ≡ x / 2 ^ (t + 1) * 2 ^ (t + 1)
+pub lowest_cleared : (x t : ℕ) → x < 2 ^ 64 → select (bit x) 64 0 ≡ Some t → bit_and x (x - 1) ≡ x / 2 ^ (t + 1) * 2 ^ (t + 1)
 lowest_cleared x t h e =
     let o = odd_times x (lowest_pos x t e) in
     let u : ℕ = o.0 in
@@ -141,7 +141,7 @@ module _ (ws : List ℕ) (len from at : ℕ) (fit : Fit ws) (v : Valid ws len) w
     pub ahead_some : (x ≡ 0 → ⊥) → OneAhead ws len from at x
     ahead_some n = record { small = x_lt; nothing = λ e. absurd (n e); place = found }
       where
-        found : (t : ℕ) → select (bit x) 64 0 ≡ At t → (at * 64 + t < len) × (select g len (count g from + 0) ≡ At (at * 64 + t)) × (x / 2 ^ (t + 1) * 2 ^ (t + 1) ≡ rest_of ws len (at * 64 + t) (at * 64 + t + 1))
+        found : (t : ℕ) → select (bit x) 64 0 ≡ Some t → (at * 64 + t < len) × (select g len (count g from + 0) ≡ Some (at * 64 + t)) × (x / 2 ^ (t + 1) * 2 ^ (t + 1) ≡ rest_of ws len (at * 64 + t) (at * 64 + t + 1))
         found t e =
             let s : ℕ = start - at * 64 in
             let w : ℕ = get_or ws at 0 in

@@ -1,61 +1,16 @@
 -- What each call on a bit vector answers and leaves, document 01, "Odd spots" and "Refusals". Assumes nothing.
-use Rattle.std.specs.Prelude.{List, ◌++◌, Bool, cond, ℕ, ◌+◌, ◌-◌, ◌*◌, ◌/◌, ◌%◌, ◌^◌, min, leb, ltb, length, get_or, set, take, drop}
+use Rattle.errors.specs.declared.Refusal.{Refusal}
+use Rattle.std.specs.Prelude.{List, ◌++◌, Bool, cond, ℕ, ◌+◌, ◌-◌, ◌*◌, ◌/◌, ◌%◌, ◌^◌, min, leb, ltb, length, get_or, set, take, drop, Ok, Err, Some, None, Result, Option, ⊤}
 use Rattle.errors.specs.Refusal.{number_of}
-use Rattle.errors.specs.Answer.{Answer, value, none, done, refused, Outcome, leaves}
+use Rattle.errors.specs.Answer.{Answer, value, none, done, refused, Outcome, leaves, of_option}
 use Rattle.broadword.specs.Bits.{count}
 use Rattle.broadword.specs.Fields.{flag, word}
 use Rattle.broadword.specs.Places.{last, select}
-use Rattle.broadword.specs.declared.Found.{Found}
-use Rattle.broadword.specs.declared.Found.TheVariants as found
 use Rattle.bit_words.specs.Vector.{bit_at, bit_over, words_for, invalid, number_words, put_bit, appended}
-use Rattle.bit_vectors.specs.declared.Altered.{Altered}
-use Rattle.bit_vectors.specs.declared.Altered.TheVariants as altered
-use Rattle.bit_vectors.specs.declared.Pushed.{Pushed}
-use Rattle.bit_vectors.specs.declared.Pushed.TheVariants as pushed
-use Rattle.bit_vectors.specs.declared.Word.{Word}
-use Rattle.bit_vectors.specs.declared.Word.TheVariants as word-answer
-use Rattle.bit_vectors.specs.declared.Bit.{Bit}
-use Rattle.bit_vectors.specs.declared.Bit.TheVariants as bit-answer
-use Rattle.bit_vectors.specs.declared.Count.{Count}
-use Rattle.bit_vectors.specs.declared.Count.TheVariants as count-answer
-use Rattle.bit_vectors.specs.declared.Place.{Place}
-use Rattle.bit_vectors.specs.declared.Place.TheVariants as place-answer
 
 -- ---- the cases of each answer, in document 01's terms
 
-abbrev pub of_altered : Altered → Answer
-of_altered altered.Done = done
-of_altered (altered.Refused e) = refused (number_of e)
-
-abbrev pub of_pushed_bits : Pushed → Answer
-of_pushed_bits (pushed.Length n) = value n
-of_pushed_bits (pushed.Refused e) = refused (number_of e)
-
-abbrev pub of_word : Word → Answer
-of_word (word-answer.Value x) = value x
-of_word word-answer.Nothing = none
-of_word (word-answer.Refused e) = refused (number_of e)
-
-abbrev pub of_bit : Bit → Answer
-of_bit (bit-answer.Is b) = value (flag b)
-of_bit bit-answer.Nothing = none
-of_bit (bit-answer.Refused e) = refused (number_of e)
-
-abbrev pub of_count : Count → Answer
-of_count (count-answer.Ones n) = value n
-of_count count-answer.Nothing = none
-of_count (count-answer.Refused e) = refused (number_of e)
-
-abbrev pub of_place : Place → Answer
-of_place (place-answer.At i) = value i
-of_place place-answer.Nothing = none
-of_place (place-answer.Refused e) = refused (number_of e)
-
 -- a place that may be missing
-abbrev pub of_found : Found → Answer
-of_found (found.At i) = value i
-of_found found.Nothing = none
-
 -- ---- questions
 
 module _ (ws : List ℕ) (len : ℕ) where
@@ -81,11 +36,11 @@ module _ (ws : List ℕ) (len : ℕ) where
 
   -- over the ones (true) or the zeros (false)
   unfoldable pub select_bit_of : Bool → ℕ → Answer
-  select_bit_of b k = if_valid (of_found (select (bit_over b ws) len k))
+  select_bit_of b k = if_valid (of_option (select (bit_over b ws) len k))
 
   -- the last one at or before pos; from the length on the last one of all. Document 02 (v)
   unfoldable pub predecessor1_of : ℕ → Answer
-  predecessor1_of pos = if_valid (of_found (last (bit_at ws) (min (pos + 1) len)))
+  predecessor1_of pos = if_valid (of_option (last (bit_at ws) (min (pos + 1) len)))
 
   -- ---- calls that alter words
 

@@ -1,11 +1,11 @@
 -- Document 01's "Odd spots" of broadword.rs, bit_vector.rs and unary.rs as rows of one table, those of predecessor1 as document 02 (v) has them, and the theorem that covers the table.
 use Rattle.std.specs.Prelude.{◌≡◌, refl, List, [], ◌∷◌, map, true, false, ℕ, ◌-◌, ◌^◌}
-use Rattle.errors.specs.Answer.{Answer, value, none, refused}
+use Rattle.errors.specs.Answer.{Answer, value, none, refused, of_option}
 use Rattle.broadword.specs.Bits.{bit, count}
 use Rattle.broadword.specs.Fields.{word}
 use Rattle.broadword.specs.Places.{last, select}
 use Rattle.bit_words.specs.Vector.{bit_at, bit_over, padding, invalid}
-use Rattle.bit_vectors.specs.Queries.{of_found, if_valid, get_bits_of, rank1_of, num_ones_of, select_bit_of, predecessor1_of, set_bit_of, push_bits_of}
+use Rattle.bit_vectors.specs.Queries.{if_valid, get_bits_of, rank1_of, num_ones_of, select_bit_of, predecessor1_of, set_bit_of, push_bits_of}
 use Rattle.bit_vectors.specs.Walk.{rest_of, walk_at, Step, walk_step_of, next_of, skip1_of, skip0_of}
 use Rattle.bit_vectors.specs.declared.unary.Unary.{Unary}
 
@@ -31,10 +31,10 @@ after s = s.walk
 unfoldable pub rows : List Row
 rows =
     -- lsb(0) and msb(0) are none; select_in_word is none when the word has k or fewer ones
-    row (of_found (select (bit 0) 64 0)) none
-    ∷ row (of_found (last (bit 0) 64)) none
-    ∷ row (of_found (select (bit 67) 64 2)) (value 6)
-    ∷ row (of_found (select (bit 67) 64 3)) none
+    row (of_option (select (bit 0) 64 0)) none
+    ∷ row (of_option (last (bit 0) 64)) none
+    ∷ row (of_option (select (bit 67) 64 2)) (value 6)
+    ∷ row (of_option (select (bit 67) 64 3)) none
     -- get_bits: a width over 64, an end past the length, one that wraps in the Rust, width 0 at the length
     ∷ row (get_bits_of eleven 4 0 65) none
     ∷ row (get_bits_of eleven 4 3 2) none

@@ -1,18 +1,14 @@
 -- The unary walk. `from` is the first place not yet taken; `position` is the start, then the last place given, and the length once a none was
 -- given, which ends the walk. A step goes on from `from`: to the one (or the zero) that k of its kind stand before from there on. Assumes nothing.
-use Rattle.std.specs.Prelude.{◌≡◌, List, Bool, true, false, cond, ℕ, ◌+◌, ◌-◌, ◌*◌, ◌/◌, ◌^◌, ◌≤◌, leb, get_or, take}
+use Rattle.errors.specs.declared.Refusal.{Refusal}
+use Rattle.std.specs.Prelude.{◌≡◌, List, Bool, true, false, cond, ℕ, ◌+◌, ◌-◌, ◌*◌, ◌/◌, ◌^◌, ◌≤◌, leb, get_or, take, Ok, Err, Some, None, Result, Option}
 use Rattle.errors.specs.Refusal.{number_of}
-use Rattle.errors.specs.Answer.{Answer, value, none, refused}
+use Rattle.errors.specs.Answer.{Answer, value, none, refused, of_optional}
 use Rattle.broadword.specs.Bits.{count}
 use Rattle.broadword.specs.Places.{select}
-use Rattle.broadword.specs.declared.Found.{Found}
-use Rattle.broadword.specs.declared.Found.TheVariants as found
 use Rattle.bit_words.specs.Vector.{bit_over, words_for, invalid}
-use Rattle.bit_vectors.specs.Queries.{of_place}
 use Rattle.bit_vectors.specs.declared.unary.Unary.{Unary}
 use Rattle.bit_vectors.specs.declared.unary.Stepped.{Stepped}
-use Rattle.bit_vectors.specs.declared.unary.Started.{Started}
-use Rattle.bit_vectors.specs.declared.unary.Started.TheVariants as started
 
 -- of the word of `position`, the bits from the place `from` on
 unfoldable pub rest_of : List ℕ → ℕ → ℕ → ℕ → ℕ
@@ -26,9 +22,9 @@ pub data WalkBegun : Type 0 where
   begun : Unary → WalkBegun
   refused_by : ℕ → WalkBegun
 
-abbrev pub of_started : Started → WalkBegun
-of_started (started.Walk w) = begun w
-of_started (started.Refused e) = refused_by (number_of e)
+abbrev pub of_started : Result Unary Refusal → WalkBegun
+of_started (Ok w) = begun w
+of_started (Err e) = refused_by (number_of e)
 
 unfoldable pub walk_new_of : List ℕ → ℕ → ℕ → WalkBegun
 walk_new_of ws len start = cond (invalid ws len) (refused_by 13) (cond (leb (words_for len) (start / 64)) (refused_by 16) (begun (walk_at ws len start start)))
@@ -42,12 +38,12 @@ abbrev pub step : Answer → Unary → Step
 step a w = record { answer = a; walk = w }
 
 abbrev pub of_stepped : Stepped → Step
-of_stepped r = step (of_place r.place) r.walk
+of_stepped r = step (of_optional r.place) r.walk
 
 -- a place is given, and taken (1) or not (0); a none ends the walk
-abbrev pub given : List ℕ → ℕ → ℕ → Found → Step
-given ws len taken (found.At p) = step (value p) (walk_at ws len p (p + taken))
-given ws len taken found.Nothing = step none (walk_at ws len len len)
+abbrev pub given : List ℕ → ℕ → ℕ → Option ℕ → Step
+given ws len taken (Some p) = step (value p) (walk_at ws len p (p + taken))
+given ws len taken None = step none (walk_at ws len len len)
 
 module _ (ws : List ℕ) (len : ℕ) (w : Unary) where
   unfoldable pub walk_step_of : Bool → ℕ → ℕ → Step

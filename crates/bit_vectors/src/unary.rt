@@ -1,18 +1,16 @@
 // A walk over the ones of a bit vector. Its state is a value beside the words and the length, which each call takes again.
 //
 // `next` takes the place that it gives; `skip1` and `skip0` stop on it without taking it. A none ends the walk. `next_within` is `next` for a
-// caller that loops: it demands a walk over these bits, as `new` and each step leave it, and the table of `lsb_by`, and costs a constant and the
+// caller that loops: it demands a walk over these bits, as `new` and each step leave it, and the table of `lsb`, and costs a constant and the
 // words that it passes.
 ghost use Rattle.std.specs.Prelude.{◌≡◌, true, false, ◌*◌, ◌/◌, ◌%◌, ◌^◌, ◌≤◌, ◌<◌, length, get_or};
-ghost use Rattle.broadword.specs.Places.{Debruijn64};
 ghost use Rattle.bit_words.specs.Vector.{bit_over, invalid};
 ghost use Rattle.bit_words.specs.Inner.{Skipped};
 ghost use Rattle.bit_vectors.specs.Inner.{OneAhead, stop_at};
 ghost use Rattle.bit_vectors.specs.Walk.{of_started, of_stepped, walk_new_of, walk_step_of, next_of, skip1_of, skip0_of, Walking};
 
-use super::Place;
 use bit_words::{WORD_LEN, find_from, is_invalid, words_for};
-use broadword::{Found, debruijn64_table, lsb_by, select_in_byte_table};
+use broadword::lsb;
 use errors::Refusal;
 
 #[derive(Clone, Copy)]
@@ -26,14 +24,8 @@ pub struct Unary {
 }
 
 #[derive(Clone, Copy)]
-pub enum Started {
-    Walk(Unary),
-    Refused(Refusal),
-}
-
-#[derive(Clone, Copy)]
 pub struct Stepped {
-    pub place: Place,
+    pub place: Result<Option<usize>, Refusal>,
     pub walk: Unary,
 }
 
@@ -52,17 +44,17 @@ pub fn walk_from(words: &[u64], from: usize) -> Unary
     }
 }
 
-pub fn new(words: &[u64], len: usize, start: usize) -> Started
+pub fn new(words: &[u64], len: usize, start: usize) -> Result<Unary, Refusal>
     ensures { of_started result ≡ walk_new_of words.now len start }
 {
     if is_invalid(words, len) {
-        return Started::Refused(Refusal::InvalidBits);
+        return Err(Refusal::InvalidBits);
     }
     let used = words_for(len);
     if used <= start / WORD_LEN {
-        return Started::Refused(Refusal::OutOfBounds);
+        return Err(Refusal::OutOfBounds);
     }
-    Started::Walk(walk_from(words, start))
+    Ok(walk_from(words, start))
 }
 
 // The start, then the last place given, and the length once a none was given.
@@ -74,10 +66,10 @@ pub fn position(w: Unary) -> usize
 
 // A none ends the walk.
 fn ended(len: usize) -> Stepped
-    ensures { result ≡ record { place = Place.Nothing; walk = record { position = len; from = len; buf = 0 } } }
+    ensures { result ≡ record { place = Ok None; walk = record { position = len; from = len; buf = 0 } } }
 {
     Stepped {
-        place: Place::Nothing,
+        place: Ok(None),
         walk: Unary {
             position: len,
             from: len,
@@ -132,20 +124,20 @@ fn left_of(words: &[u64], len: usize, w: Unary) -> Left
     }
 }
 
-// `next`, of a walk over these bits, with the table of `lsb_by` lent.
-pub fn next_within(words: &[u64], len: usize, w: Unary, table: &[u8; 64]) -> Stepped
-    requires { Walking words.now len w × Debruijn64 table.now }
+// `next`, of a walk over these bits, with the table of `lsb` lent.
+pub fn next_within(words: &[u64], len: usize, w: Unary) -> Stepped
+    requires { Walking words.now len w }
     ensures { of_stepped result ≡ next_of words.now len w }
 {
     let left = left_of(words, len, w);
     let at = left.at;
     let rest = left.rest;
-    let Found::At(bit) = lsb_by(table, rest) else {
+    let Some(bit) = lsb(rest) else {
         return ended(len);
     };
     let place = at * WORD_LEN + bit;
     Stepped {
-        place: Place::At(place),
+        place: Ok(Some(place)),
         walk: Unary {
             position: place,
             from: place + 1,
@@ -160,7 +152,7 @@ pub fn next(words: &[u64], len: usize, w: Unary) -> Stepped
 {
     if is_invalid(words, len) {
         return Stepped {
-            place: Place::Refused(Refusal::InvalidBits),
+            place: Err(Refusal::InvalidBits),
             walk: w,
         };
     }
@@ -168,8 +160,7 @@ pub fn next(words: &[u64], len: usize, w: Unary) -> Stepped
     if len <= from {
         return ended(len);
     }
-    let table = debruijn64_table();
-    next_within(words, len, walk_from(words, from), &table)
+    next_within(words, len, walk_from(words, from))
 }
 
 // The walk stops on a place, if it lies below the length.
@@ -181,7 +172,7 @@ fn stop(words: &[u64], len: usize, place: usize) -> Stepped
         return ended(len);
     }
     Stepped {
-        place: Place::At(place),
+        place: Ok(Some(place)),
         walk: walk_from(words, place),
     }
 }
@@ -192,7 +183,7 @@ fn skip_over(words: &[u64], len: usize, w: Unary, over_one: bool, k: usize) -> S
 {
     if is_invalid(words, len) {
         return Stepped {
-            place: Place::Refused(Refusal::InvalidBits),
+            place: Err(Refusal::InvalidBits),
             walk: w,
         };
     }
@@ -201,8 +192,7 @@ fn skip_over(words: &[u64], len: usize, w: Unary, over_one: bool, k: usize) -> S
         return ended(len);
     }
     let used = words_for(len);
-    let table = select_in_byte_table();
-    let Found::At(place) = find_from(words, used, over_one, &table, from, k) else {
+    let Some(place) = find_from(words, used, over_one, from, k) else {
         return ended(len);
     };
     stop(words, len, place)

@@ -1,4 +1,5 @@
 -- The last one at or before a place, by words: the low bits of its word, and else the last word below that is not 0. Assumes nothing.
+use Rattle.std.specs.Prelude.{Some, None, Option}
 use mathlib.Core.Path.{◌≡◌, refl, sym, ap, ◌∙◌}
 use mathlib.Core.List.{List}
 use Prim.Native.Nat.{ℕ, zero, suc, ◌+◌, ◌-◌, ◌*◌, ◌/◌, ◌%◌, ◌^◌, ◌≤◌, ◌<◌}
@@ -10,8 +11,6 @@ use lib.Pow.{pow_pos, pow_mono}
 use Rattle.broadword.specs.Bits.{bit, count}
 use Rattle.broadword.specs.Fields.{digit, word}
 use Rattle.broadword.specs.Places.{last}
-use Rattle.broadword.specs.declared.Found.{Found}
-use Rattle.broadword.specs.declared.Found.TheVariants.{At, Nothing}
 use Rattle.broadword.proofs.Count.{bit_le, bit-mod, bit-above, count_zero}
 use Rattle.broadword.proofs.Fields.{word-digits, word_same}
 use Rattle.broadword.proofs.Find.{last_is, last_nothing, last_at, last_none}
@@ -49,7 +48,7 @@ module _ (ws : List ℕ) (pos : ℕ) where
   low_bit j h = bit-mod (get_or ws at 0) (pos % 64 + 1) j h ∙ sym (bit_at-word ws at j (omega arith))
 
   -- in the word of pos
-  pub here : (b : ℕ) → last (bit low) 64 ≡ At b → (b < 64) × (last (bit_at ws) (pos + 1) ≡ At (at * 64 + b))
+  pub here : (b : ℕ) → last (bit low) 64 ≡ Some b → (b < 64) × (last (bit_at ws) (pos + 1) ≡ Some (at * 64 + b))
   here b e =
       let r = last_is (bit low) 64 b e in
       let l : b < pos % 64 + 1 = within (dec_lt b (pos % 64 + 1)) in (
@@ -70,7 +69,7 @@ module _ (ws : List ℕ) (pos : ℕ) where
           absurd (omega arith)
 
   -- none in it, nor in the words from n on
-  module _ (n : ℕ) (e : last (bit low) 64 ≡ Nothing) (end : Ending ws at n) where
+  module _ (n : ℕ) (e : last (bit low) 64 ≡ None) (end : Ending ws at n) where
     zero_from : (j : ℕ) → n * 64 ≤ j → j < pos + 1 → bit_at ws j ≡ 0
     zero_from j h l = go (dec_le (at * 64) j)
       where
@@ -86,11 +85,11 @@ module _ (ws : List ℕ) (pos : ℕ) where
             let b = lt_of_not-le g in
             sym (ap (bit_at ws) s) ∙ bit_at-word ws i (j % 64) (omega arith) ∙ ap (λ (w : ℕ). bit w (j % 64)) (end.zeros i (omega arith) (omega arith)) ∙ bit-above 0 (j % 64) (pow_pos (j % 64))
 
-    pub nowhere : n ≡ 0 → last (bit_at ws) (pos + 1) ≡ Nothing
+    pub nowhere : n ≡ 0 → last (bit_at ws) (pos + 1) ≡ None
     nowhere z = last_none (bit_at ws) (pos + 1) (λ j h. zero_from j (omega arith) h)
 
     -- in the word before them
-    pub below : (i b : ℕ) → n ≡ suc i → last (bit (get_or ws i 0)) 64 ≡ At b → (b < 64) × (last (bit_at ws) (pos + 1) ≡ At (i * 64 + b))
+    pub below : (i b : ℕ) → n ≡ suc i → last (bit (get_or ws i 0)) 64 ≡ Some b → (b < 64) × (last (bit_at ws) (pos + 1) ≡ Some (i * 64 + b))
     below i b en eb =
         let r = last_is (bit (get_or ws i 0)) 64 b eb in
         let l : b < 64 = r.within in
@@ -107,38 +106,38 @@ module _ (ws : List ℕ) (pos : ℕ) where
             let k : d < 64 = omega arith in
             not_one (bit_at ws j) (bit_at_le ws j) (λ o. (last_is (bit (get_or ws i 0)) 64 b eb).after d (omega arith) k (sym (bit_at-word ws i d k) ∙ ap (bit_at ws) s ∙ o))
 
-    pub not_zero : (i : ℕ) → n ≡ suc i → get_or ws i 0 < 2 ^ 64 → last (bit (get_or ws i 0)) 64 ≡ Nothing → ⊥
+    pub not_zero : (i : ℕ) → n ≡ suc i → get_or ws i 0 < 2 ^ 64 → last (bit (get_or ws i 0)) 64 ≡ None → ⊥
     not_zero i en h z =
         end.some i en (no_bits (get_or ws i 0) h (λ j l. not_one (bit (get_or ws i 0) j) (bit_le (get_or ws i 0) j) (last_nothing (bit (get_or ws i 0)) 64 z j l)))
 
 -- a place found in a word is one of its 64
-pub last_within : (x : ℕ) (r : Found) → r ≡ last (bit x) 64 → Within r
+pub last_within : (x : ℕ) (r : Option ℕ) → r ≡ last (bit x) 64 → Within r
 last_within x r er t e = (last_is (bit x) 64 t (sym er ∙ e)).within
 
 module _ (ws : List ℕ) (pos : ℕ) where
   -- the word of pos has one
-  pub found_here : (x : ℕ) → x ≡ low ws pos → (r : Found) → r ≡ last (bit x) 64 → (x ≡ 0 → ⊥) → place_in (pos / 64) r ≡ last (bit_at ws) (pos + 1)
-  found_here x ex (At b) e z = sym (here ws pos b (ap (λ (y : ℕ). last (bit y) 64) (sym ex) ∙ sym e)).1
-  found_here x ex Nothing e z =
-      let n : last (bit (low ws pos)) 64 ≡ Nothing = ap (λ (y : ℕ). last (bit y) 64) (sym ex) ∙ sym e in
+  pub found_here : (x : ℕ) → x ≡ low ws pos → (r : Option ℕ) → r ≡ last (bit x) 64 → (x ≡ 0 → ⊥) → place_in (pos / 64) r ≡ last (bit_at ws) (pos + 1)
+  found_here x ex (Some b) e z = sym (here ws pos b (ap (λ (y : ℕ). last (bit y) 64) (sym ex) ∙ sym e)).1
+  found_here x ex None e z =
+      let n : last (bit (low ws pos)) 64 ≡ None = ap (λ (y : ℕ). last (bit y) 64) (sym ex) ∙ sym e in
       let h : low ws pos < 2 ^ 64 = lt_of_lt_of_le (mod-lt (get_or ws (pos / 64) 0) (pow_pos (pos % 64 + 1))) (pow_mono (let d : pos % 64 + 1 ≤ 64 = omega arith in d)) in
       absurd (z (ex ∙ no_bits (low ws pos) h (λ j l. not_one (bit (low ws pos) j) (bit_le (low ws pos) j) (last_nothing (bit (low ws pos)) 64 n j l))))
 
   module _ (n : ℕ) (z : low ws pos ≡ 0) (end : Ending ws (pos / 64) n) where
-    none_here : last (bit (low ws pos)) 64 ≡ Nothing
+    none_here : last (bit (low ws pos)) 64 ≡ None
     none_here = ap (λ (x : ℕ). last (bit x) 64) z ∙ last_none (bit 0) 64 (λ j _. bit-above 0 j (pow_pos j))
 
-    pub found_nowhere : n ≡ 0 → Nothing ≡ last (bit_at ws) (pos + 1)
+    pub found_nowhere : n ≡ 0 → None ≡ last (bit_at ws) (pos + 1)
     found_nowhere e = sym (nowhere ws pos n none_here end e)
 
     -- the last word before it that is not 0 has it
-    pub found_before : (i : ℕ) → n ≡ suc i → (r : Found) → r ≡ last (bit (get_or ws i 0)) 64 → get_or ws i 0 < 2 ^ 64 → place_in i r ≡ last (bit_at ws) (pos + 1)
-    found_before i en (At b) e h = sym (below ws pos n none_here end i b en (sym e)).1
-    found_before i en Nothing e h = absurd (not_zero ws pos n none_here end i en h (sym e))
+    pub found_before : (i : ℕ) → n ≡ suc i → (r : Option ℕ) → r ≡ last (bit (get_or ws i 0)) 64 → get_or ws i 0 < 2 ^ 64 → place_in i r ≡ last (bit_at ws) (pos + 1)
+    found_before i en (Some b) e h = sym (below ws pos n none_here end i b en (sym e)).1
+    found_before i en None e h = absurd (not_zero ws pos n none_here end i en h (sym e))
 
 -- ---- a last one that there is
 
-pub some_last : (f : ℕ → ℕ) → ((j : ℕ) → f j ≤ 1) → (end : ℕ) → 0 < count f end → last f end ≡ Nothing → ⊥
+pub some_last : (f : ℕ → ℕ) → ((j : ℕ) → f j ≤ 1) → (end : ℕ) → 0 < count f end → last f end ≡ None → ⊥
 some_last f bits end h e = let z = count_zero f end (λ j l. not_one (f j) (bits j) (last_nothing f end e j l)) in omega arith
 
 pub some_place : (f : ℕ → ℕ) (end : ℕ) → 0 < count f end → 1 ≤ end
@@ -147,8 +146,8 @@ some_place f zero h = absurd (omega arith)
 some_place f (suc end) h = omega arith
 
 -- in the 64 bits before the end
-pub near : (ws : List ℕ) (end w b : ℕ) → 64 ≤ end → end ≤ length ws * 64 → w ≡ word 1 (λ i. bit_at (take (length ws) ws) (end - 64 + i)) 64 → last (bit w) 64 ≡ At b
-    → (b < 64) × (last (bit_at ws) end ≡ At (end - 64 + b))
+pub near : (ws : List ℕ) (end w b : ℕ) → 64 ≤ end → end ≤ length ws * 64 → w ≡ word 1 (λ i. bit_at (take (length ws) ws) (end - 64 + i)) 64 → last (bit w) 64 ≡ Some b
+    → (b < 64) × (last (bit_at ws) end ≡ Some (end - 64 + b))
 near ws end w b h u ew e =
     let r = last_is (bit w) 64 b e in
     let l : b < 64 = r.within in (

@@ -1,4 +1,5 @@
 -- Laws of the bits of a slice of words: of a place in a word, of counts and of selects, for the ones and for the zeros. Assumes nothing.
+use Rattle.std.specs.Prelude.{Some, None}
 use mathlib.Core.Path.{◌≡◌, refl, sym, ap, ap₂, ◌∙◌}
 use mathlib.Core.List.{List, [], ◌∷◌}
 use mathlib.Core.Bool.{Bool, true, false}
@@ -13,7 +14,6 @@ use lib.Pow.{pow_pos, pow-add}
 use Rattle.broadword.specs.Bits.{bit, count, ones}
 use Rattle.broadword.specs.Fields.{digit, flag, word}
 use Rattle.broadword.specs.Places.{select}
-use Rattle.broadword.specs.declared.Found.TheVariants.{At, Nothing}
 use Rattle.broadword.proofs.Count.{bit_le, bit-mod, bit_shift, count_zero, count_add, count_same, count_le, count_mono}
 use Rattle.broadword.proofs.Fields.{digit_is, digit_lt, digit-word, word-digits, word-sub}
 use Rattle.broadword.proofs.Table.{each_eq}
@@ -156,13 +156,13 @@ rank_le ws n = count_le (bit_at ws) n (bit_at_le ws)
 -- ---- a select in more places
 
 module _ (f : ℕ → ℕ) (bits : (i : ℕ) → f i ≤ 1) (m n k : ℕ) where
-  pub narrow_in : (p : ℕ) → select f m k ≡ At p → p < n → select f n k ≡ At p
+  pub narrow_in : (p : ℕ) → select f m k ≡ Some p → p < n → select f n k ≡ Some p
   narrow_in p e l = let r = selected f m k p e in select_at f n k p l r.one r.before
 
-  pub narrow_past : (p : ℕ) → select f m k ≡ At p → n ≤ p → select f n k ≡ Nothing
+  pub narrow_past : (p : ℕ) → select f m k ≡ Some p → n ≤ p → select f n k ≡ None
   narrow_past p e h = select_none f n k (le_trans (count_mono f n p h) (le_of_eq (selected f m k p e).before))
 
-  pub select_few : select f m k ≡ Nothing → count f m ≤ k
+  pub select_few : select f m k ≡ None → count f m ≤ k
   select_few e = go (dec_lt k (count f m))
     where
       go : Dec (k < count f m) → count f m ≤ k
@@ -173,7 +173,7 @@ module _ (f : ℕ → ℕ) (bits : (i : ℕ) → f i ≤ 1) (m n k : ℕ) where
           absurd (omega arith)
       go (no g) = omega (arith, lt_of_not-le g)
 
-  pub narrow_none : select f m k ≡ Nothing → n ≤ m → select f n k ≡ Nothing
+  pub narrow_none : select f m k ≡ None → n ≤ m → select f n k ≡ None
   narrow_none e h = select_none f n k (le_trans (count_mono f n m h) (select_few e))
 
 -- counted from the first place
@@ -182,6 +182,6 @@ unfolding count
 from_first f k = zero-add k
 
 -- in no place
-pub select_empty : (f : ℕ → ℕ) (n k : ℕ) → n ≡ 0 → select f n k ≡ Nothing
+pub select_empty : (f : ℕ → ℕ) (n k : ℕ) → n ≡ 0 → select f n k ≡ None
 unfolding select
 select_empty f n k e = ap (λ (m : ℕ). select f m k) e

@@ -1,4 +1,5 @@
 -- A search from a place on: in the rest of its word, and in the words after it. Assumes nothing.
+use Rattle.std.specs.Prelude.{Some, None, Option}
 use mathlib.Core.Path.{◌≡◌, sym, ap, ap₂, ◌∙◌, subst}
 use mathlib.Core.List.{List}
 use mathlib.Core.Bool.{Bool}
@@ -11,8 +12,6 @@ use lib.Pow.{pow_pos, split}
 use Rattle.broadword.specs.Bits.{bit, count, ones}
 use Rattle.broadword.specs.Fields.{word}
 use Rattle.broadword.specs.Places.{select}
-use Rattle.broadword.specs.declared.Found.{Found}
-use Rattle.broadword.specs.declared.Found.TheVariants.{At, Nothing}
 use Rattle.broadword.proofs.Count.{bit_le, bit_shift, count_add, count_mono, count_zero, count_same}
 use Rattle.broadword.proofs.Find.{selected, select_at, select_none, select_some}
 use Rattle.bit_words.specs.Vector.{bit_at, bit_over, word_over}
@@ -66,7 +65,7 @@ module _ (b : Bool) (ws : List ℕ) (fit : Fit ws) (from i : ℕ) (lo : i * 64 �
   rest_over = ap (count f) (let d : (i + 1) * 64 ≡ i * 64 + 64 = omega arith in d) ∙ counted 64 (omega arith) (le_refl 64)
 
   -- the one of the rest that k ones of it stand before
-  pub rest_at : (k t : ℕ) → select (bit x) 64 k ≡ At t → (t < 64) × (f (i * 64 + t) ≡ 1) × (count f (i * 64 + t) ≡ count f from + k) × (s ≤ t)
+  pub rest_at : (k t : ℕ) → select (bit x) 64 k ≡ Some t → (t < 64) × (f (i * 64 + t) ≡ 1) × (count f (i * 64 + t) ≡ count f from + k) × (s ≤ t)
   rest_at k t e =
       let r = selected (bit x) 64 k t e in
       let l : t < 64 = r.within in
@@ -85,7 +84,7 @@ module _ (b : Bool) (ws : List ℕ) (fit : Fit ws) (from i : ℕ) (lo : i * 64 �
 -- ---- a search
 
 -- a word with more than k ones has the place
-select_found : (x k : ℕ) → k < ones x 64 → (t : ℕ) × (select (bit x) 64 k ≡ At t)
+select_found : (x k : ℕ) → k < ones x 64 → (t : ℕ) × (select (bit x) 64 k ≡ Some t)
 select_found x k h = let s = select_some (bit x) 64 k (bit_le x) h in (s.0, select_at (bit x) 64 k s.0 s.1.within s.1.one s.1.before)
 
 -- what is left of the word of `from`, as the program computes it
@@ -94,7 +93,7 @@ shifted_rest w s h = let d = split w s in mod-eq_of_lt {n = w / 2 ^ s * 2 ^ s} {
 
 module _ (b : Bool) (ws : List ℕ) (fit : Fit ws) where
   -- in the word i, whole
-  pub word_at : (i left x t : ℕ) → x ≡ word_over b (get_or ws i 0) → select (bit x) 64 left ≡ At t → (t < 64) × (bit_over b ws (i * 64 + t) ≡ 1) × (count (bit_over b ws) (i * 64 + t) ≡ count (bit_over b ws) (i * 64) + left)
+  pub word_at : (i left x t : ℕ) → x ≡ word_over b (get_or ws i 0) → select (bit x) 64 left ≡ Some t → (t < 64) × (bit_over b ws (i * 64 + t) ≡ 1) × (count (bit_over b ws) (i * 64 + t) ≡ count (bit_over b ws) (i * 64) + left)
   word_at i left x t ex e =
       let r = selected (bit x) 64 left t e in
       let l = r.within in (
@@ -112,13 +111,13 @@ module _ (b : Bool) (ws : List ℕ) (fit : Fit ws) where
     pub first_over : count (bit_over b ws) ((from / 64 + 1) * 64) ≡ count (bit_over b ws) from + ones x 64
     first_over = rest_over b ws fit from (from / 64) (omega arith) (omega arith) ∙ ap (λ (y : ℕ). count (bit_over b ws) from + ones y 64) (sym masked)
 
-    pub first_at : (k t : ℕ) → select (bit x) 64 k ≡ At t → (t < 64) × (bit_over b ws (from / 64 * 64 + t) ≡ 1) × (count (bit_over b ws) (from / 64 * 64 + t) ≡ count (bit_over b ws) from + k)
+    pub first_at : (k t : ℕ) → select (bit x) 64 k ≡ Some t → (t < 64) × (bit_over b ws (from / 64 * 64 + t) ≡ 1) × (count (bit_over b ws) (from / 64 * 64 + t) ≡ count (bit_over b ws) from + k)
     first_at k t e =
         let r = rest_at b ws fit from (from / 64) (omega arith) (omega arith) k t (ap (λ (y : ℕ). select (bit y) 64 k) (sym masked) ∙ e) in
         (r.0, r.1, r.2)
 
     -- the place in it, and that of a word after it
-    pub find_first : (used k : ℕ) (a : Found) → from / 64 < used → k < ones x 64 → a ≡ select (bit x) 64 k → place_in (from / 64) a ≡ select (bit_over b ws) (used * 64) (count (bit_over b ws) from + k)
+    pub find_first : (used k : ℕ) (a : Option ℕ) → from / 64 < used → k < ones x 64 → a ≡ select (bit x) 64 k → place_in (from / 64) a ≡ select (bit_over b ws) (used * 64) (count (bit_over b ws) from + k)
     find_first used k a u h ea =
         let t = select_found x k h in
         let r = first_at k t.0 t.1 in
@@ -128,7 +127,7 @@ module _ (b : Bool) (ws : List ℕ) (fit : Fit ws) where
       total : count (bit_over b ws) (i * 64) + left ≡ count (bit_over b ws) from + k
       total = let o = first_over in let e = s.before in omega arith
 
-      pub find_none : i ≡ used → Nothing ≡ select (bit_over b ws) (used * 64) (count (bit_over b ws) from + k)
+      pub find_none : i ≡ used → None ≡ select (bit_over b ws) (used * 64) (count (bit_over b ws) from + k)
       find_none e = sym (select_none (bit_over b ws) (used * 64) (count (bit_over b ws) from + k) (let t = total in subst (λ (n : ℕ). count (bit_over b ws) (n * 64) ≤ count (bit_over b ws) from + k) e (omega arith)))
 
       pub spot_used : count (bit_over b ws) from + k < count (bit_over b ws) (used * 64) → i < used
@@ -138,7 +137,7 @@ module _ (b : Bool) (ws : List ℕ) (fit : Fit ws) where
           let m = count_mono (bit_over b ws) (used * 64) (i * 64) (omega arith) in
           omega arith)
 
-      pub find_word : (y : ℕ) (a : Found) → y ≡ word_over b (get_or ws i 0) → i < used → a ≡ select (bit y) 64 left → place_in i a ≡ select (bit_over b ws) (used * 64) (count (bit_over b ws) from + k)
+      pub find_word : (y : ℕ) (a : Option ℕ) → y ≡ word_over b (get_or ws i 0) → i < used → a ≡ select (bit y) 64 left → place_in i a ≡ select (bit_over b ws) (used * 64) (count (bit_over b ws) from + k)
       find_word y a ey u ea =
           let t = select_found y left (left_lt b ws fit i left y ey (s.here u)) in
           let r = word_at i left y t.0 ey t.1 in
@@ -174,7 +173,7 @@ module _ (b : Bool) (ws : List ℕ) (used from k x : ℕ) (is : x ≡ word_over 
       let m = count_mono (bit x) (used * 64 - from) t (omega arith) in
       omega arith)
 
-  pub ahead_at : (t : ℕ) → from ≤ used * 64 → select (bit x) 64 k ≡ At t → (from + t < used * 64) × (select F (used * 64) (count F from + k) ≡ At (from + t))
+  pub ahead_at : (t : ℕ) → from ≤ used * 64 → select (bit x) 64 k ≡ Some t → (from + t < used * 64) × (select F (used * 64) (count F from + k) ≡ Some (from + t))
   ahead_at t u e =
       let r = selected (bit x) 64 k t e in
       let w = within t (le_of_eq r.before) (le_of_lt r.within) u in (

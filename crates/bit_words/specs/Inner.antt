@@ -1,9 +1,6 @@
 -- What the inner functions of this crate demand and find, as facts. Assumes nothing.
-use Rattle.std.specs.Prelude.{◌≡◌, List, ℕ, suc, ◌+◌, ◌*◌, ◌/◌, ◌%◌, ◌^◌, ◌≤◌, ◌<◌, length, get_or}
+use Rattle.std.specs.Prelude.{◌≡◌, List, ℕ, suc, ◌+◌, ◌*◌, ◌/◌, ◌%◌, ◌^◌, ◌≤◌, ◌<◌, length, get_or, Some, None, Option}
 use Rattle.broadword.specs.Bits.{count}
-use Rattle.broadword.specs.Places.{SelectInByte}
-use Rattle.broadword.specs.declared.Found.{Found}
-use Rattle.broadword.specs.declared.Found.TheVariants as found
 use Rattle.bit_words.specs.Vector.{words_for}
 
 -- from the word `first` on, k ones of f stand before the place that has `left` before it in the word `at`; `at` is `used` where there are fewer
@@ -34,17 +31,16 @@ pub record Overwritable (ws : List ℕ) (pos x width : ℕ) : Type 0 where
   pub room : pos + width ≤ 64 * length ws
 
 -- a place in a word
-abbrev pub Within : Found → Type 0
-Within f = (t : ℕ) → f ≡ found.At t → t < 64
+abbrev pub Within : Option ℕ → Type 0
+Within f = (t : ℕ) → f ≡ Some t → t < 64
 
 -- as a place in the words, in the word i
-abbrev pub place_in : ℕ → Found → Found
-place_in i (found.At t) = found.At (i * 64 + t)
-place_in i found.Nothing = found.Nothing
+abbrev pub place_in : ℕ → Option ℕ → Option ℕ
+place_in i (Some t) = Some (i * 64 + t)
+place_in i None = None
 
--- the words and the table that a search from a place on reads
-pub record Findable (ws : List ℕ) (used from : ℕ) (table : List ℕ) : Type 0 where
+-- the words that a search from a place on reads
+pub record Findable (ws : List ℕ) (used from : ℕ) : Type 0 where
   pub start : from / 64 < used
   pub room : used ≤ length ws
   pub few : used ≤ 2 ^ 58
-  pub rule : SelectInByte table

@@ -3,15 +3,14 @@
 // `words_for` and `is_invalid` take anything. The others are inner: each demands the words that it reads, as its `requires` says.
 #![tactic(auto)]
 
-ghost use Rattle.std.specs.Prelude.{◌≡◌, true, ◌+◌, ◌-◌, ◌*◌, ◌/◌, ◌%◌, ◌^◌, ◌<◌, ◌≤◌, ◌++◌, length, get_or, take, drop, replicate};
+ghost use Rattle.std.specs.Prelude.{◌≡◌, true, ◌+◌, ◌-◌, ◌*◌, ◌/◌, ◌%◌, ◌^◌, ◌<◌, ◌≤◌, ◌++◌, length, get_or, take, drop, replicate, Some};
 ghost use Rattle.broadword.specs.Bits.{count};
-ghost use Rattle.broadword.specs.Places.{last, select, Debruijn64};
-ghost use Rattle.broadword.specs.declared.Found.TheVariants.{At};
+ghost use Rattle.broadword.specs.Places.{last, select};
 ghost use Rattle.broadword.specs.Fields.{flag, word};
 ghost use Rattle.bit_words.specs.Vector.{bit_at, bit_over, words_for, invalid, word_over, put_bit, appended, overwrite};
 ghost use Rattle.bit_words.specs.Inner.{Skipped, Ending, Appendable, Overwritable, Within, place_in, Findable};
 
-use broadword::{Found, lsb_by, msb, popcount, select_in_word_within};
+use broadword::{lsb, msb, popcount, select_in_word_within};
 
 pub const WORD_LEN: usize = 64;
 
@@ -130,26 +129,19 @@ pub fn skip_words(words: &[u64], first: usize, used: usize, over_one: bool, k: u
 }
 
 // A place in the word i, as a place in the words.
-fn place_in(i: usize, found: Found) -> Found
+fn place_in(i: usize, found: Option<usize>) -> Option<usize>
     requires { (i < 2 ^ 58) × Within found }
     ensures { result ≡ place_in i found }
 {
     match found {
-        Found::At(bit) => Found::At(i * WORD_LEN + bit),
-        Found::Nothing => Found::Nothing,
+        Some(bit) => Some(i * WORD_LEN + bit),
+        None => None,
     }
 }
 
 // The place of the one, or the zero, that k of its kind stand before from the place `from` on, in the first `used` words.
-pub fn find_from(
-    words: &[u64],
-    used: usize,
-    over_one: bool,
-    table: &[u8; 2048],
-    from: usize,
-    k: usize,
-) -> Found
-    requires { Findable words.now used from table.now }
+pub fn find_from(words: &[u64], used: usize, over_one: bool, from: usize, k: usize) -> Option<usize>
+    requires { Findable words.now used from }
     ensures { result ≡ select (bit_over over_one words.now) (used * 64) (count (bit_over over_one words.now) from + k) }
 {
     let at = from / WORD_LEN;
@@ -157,29 +149,22 @@ pub fn find_from(
     let first = (word_over(words, at, over_one) >> shift) << shift;
     let ones = popcount(first);
     if k < ones {
-        return Found::At(at * WORD_LEN + select_in_word_within(table, first, k));
+        return Some(at * WORD_LEN + select_in_word_within(first, k));
     }
     let spot = skip_words(words, at + 1, used, over_one, k - ones);
     let word = spot.word;
     let left = spot.left;
     if word == used {
-        return Found::Nothing;
+        return None;
     }
     let bits = word_over(words, word, over_one);
-    Found::At(word * WORD_LEN + select_in_word_within(table, bits, left))
+    Some(word * WORD_LEN + select_in_word_within(bits, left))
 }
 
 // The same where there is such a one or zero, as a place, but the place's own word does not have it: word by word.
-fn find_by_words(
-    words: &[u64],
-    used: usize,
-    over_one: bool,
-    table: &[u8; 2048],
-    from: usize,
-    k: usize,
-) -> usize
-    requires { Findable words.now used from table.now × (count (bit_over over_one words.now) from + k < count (bit_over over_one words.now) (used * 64)) × (count (bit_over over_one words.now) ((from / 64 + 1) * 64) ≤ count (bit_over over_one words.now) from + k) }
-    ensures { select (bit_over over_one words.now) (used * 64) (count (bit_over over_one words.now) from + k) ≡ At result }
+fn find_by_words(words: &[u64], used: usize, over_one: bool, from: usize, k: usize) -> usize
+    requires { Findable words.now used from × (count (bit_over over_one words.now) from + k < count (bit_over over_one words.now) (used * 64)) × (count (bit_over over_one words.now) ((from / 64 + 1) * 64) ≤ count (bit_over over_one words.now) from + k) }
+    ensures { select (bit_over over_one words.now) (used * 64) (count (bit_over over_one words.now) from + k) ≡ Some result }
 {
     let at = from / WORD_LEN;
     let shift = from % WORD_LEN;
@@ -188,42 +173,29 @@ fn find_by_words(
     let word = spot.word;
     let left = spot.left;
     let bits = word_over(words, word, over_one);
-    word * WORD_LEN + select_in_word_within(table, bits, left)
+    word * WORD_LEN + select_in_word_within(bits, left)
 }
 
 // The same: mostly the 64 bits from the place on have it, wherever its word begins.
-pub fn find_within(
-    words: &[u64],
-    used: usize,
-    over_one: bool,
-    table: &[u8; 2048],
-    from: usize,
-    k: usize,
-) -> usize
-    requires { Findable words.now used from table.now × (count (bit_over over_one words.now) from + k < count (bit_over over_one words.now) (used * 64)) }
-    ensures { select (bit_over over_one words.now) (used * 64) (count (bit_over over_one words.now) from + k) ≡ At result }
+pub fn find_within(words: &[u64], used: usize, over_one: bool, from: usize, k: usize) -> usize
+    requires { Findable words.now used from × (count (bit_over over_one words.now) from + k < count (bit_over over_one words.now) (used * 64)) }
+    ensures { select (bit_over over_one words.now) (used * 64) (count (bit_over over_one words.now) from + k) ≡ Some result }
 {
     let bits = window_over(words, used, from, over_one);
     if k < popcount(bits) {
-        return from + select_in_word_within(table, bits, k);
+        return from + select_in_word_within(bits, k);
     }
-    find_by_words(words, used, over_one, table, from, k)
+    find_by_words(words, used, over_one, from, k)
 }
 
 // The place of the first one at the place `from` or after it, which there is: mostly it is one of the 64 bits from there on.
-pub fn first_from(
-    words: &[u64],
-    used: usize,
-    table: &[u8; 2048],
-    places: &[u8; 64],
-    from: usize,
-) -> usize
-    requires { Findable words.now used from table.now × Debruijn64 places.now × (count (bit_over true words.now) from < count (bit_over true words.now) (used * 64)) }
-    ensures { select (bit_over true words.now) (used * 64) (count (bit_over true words.now) from) ≡ At result }
+pub fn first_from(words: &[u64], used: usize, from: usize) -> usize
+    requires { Findable words.now used from × (count (bit_over true words.now) from < count (bit_over true words.now) (used * 64)) }
+    ensures { select (bit_over true words.now) (used * 64) (count (bit_over true words.now) from) ≡ Some result }
 {
-    match lsb_by(places, window(words, used, from)) {
-        Found::At(bit) => from + bit,
-        Found::Nothing => find_by_words(words, used, true, table, from, 0),
+    match lsb(window(words, used, from)) {
+        Some(bit) => from + bit,
+        None => find_by_words(words, used, true, from, 0),
     }
 }
 
@@ -244,7 +216,7 @@ pub fn last_used(words: &[u64], end: usize) -> usize
 }
 
 // The place of the last one at or before pos.
-pub fn last_upto(words: &[u64], pos: usize) -> Found
+pub fn last_upto(words: &[u64], pos: usize) -> Option<usize>
     requires { pos / 64 < length words.now }
     ensures { result ≡ last (bit_at words.now) (pos + 1) }
 {
@@ -255,7 +227,7 @@ pub fn last_upto(words: &[u64], pos: usize) -> Found
     }
     let n = last_used(words, at);
     if n == 0 {
-        return Found::Nothing;
+        return None;
     }
     let i = n - 1;
     place_in(i, msb(words[i]))
@@ -264,26 +236,26 @@ pub fn last_upto(words: &[u64], pos: usize) -> Found
 // The place of the last one before `end`, which there is, word by word.
 fn last_by_words(words: &[u64], end: usize) -> usize
     requires { (end ≤ length words.now * 64) × (0 < count (bit_at words.now) end) }
-    ensures { last (bit_at words.now) end ≡ At result }
+    ensures { last (bit_at words.now) end ≡ Some result }
 {
     match last_upto(words, end - 1) {
-        Found::At(place) => place,
-        Found::Nothing => 0,
+        Some(place) => place,
+        None => 0,
     }
 }
 
 // The same: mostly it is one of the 64 bits before `end`.
 pub fn last_before(words: &[u64], end: usize) -> usize
     requires { (end ≤ length words.now * 64) × (0 < count (bit_at words.now) end) }
-    ensures { last (bit_at words.now) end ≡ At result }
+    ensures { last (bit_at words.now) end ≡ Some result }
 {
     if end < WORD_LEN {
         return last_by_words(words, end);
     }
     let from = end - WORD_LEN;
     match msb(window(words, words.len(), from)) {
-        Found::At(bit) => from + bit,
-        Found::Nothing => last_by_words(words, end),
+        Some(bit) => from + bit,
+        None => last_by_words(words, end),
     }
 }
 

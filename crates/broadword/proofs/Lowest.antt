@@ -1,4 +1,5 @@
 -- The lowest one of a number: n is odd times 2 ^ t. `x & -x` is 2 ^ t. Assumes nothing.
+use Rattle.std.specs.Prelude.{Some, None}
 use mathlib.Core.Path.{◌≡◌, sym, ap, ap₂, ◌∙◌}
 use Prim.Native.Nat.{ℕ, zero, suc, ◌+◌, ◌-◌, ◌*◌, ◌/◌, ◌%◌, ◌^◌, ◌≤◌, ◌<◌, min}
 use native.Mathlib.Nat.{not-suc-le-zero, le_dest, pos_of_ne-zero, mul-one, mul_assoc, pow-suc, add-zero, lt_of_mul-lt-mul_right, mul-div_cancel, lt_of_le_of_lt, le_trans, le_of_eq, lt_of_not-le, not-le_of_lt, one-mul, mul-le-mul_right, add-mul}
@@ -10,7 +11,6 @@ use lib.Pow.{pow_pos, pow-add, pow_mono}
 use lib.Bits.{bit_and, and_step, and_block}
 use Rattle.broadword.specs.Bits.{bit, count}
 use Rattle.broadword.specs.Places.{select}
-use Rattle.broadword.specs.declared.Found.TheVariants.{At, Nothing}
 use Rattle.broadword.proofs.Count.{count_zero, bit-above}
 use Rattle.broadword.proofs.Find.{select_at, select_none}
 
@@ -80,20 +80,20 @@ module _ (x t m : ℕ) (e : x ≡ (m * 2 + 1) * 2 ^ t) where
 
 -- ---- there is a lowest one exactly in a word that is not 0
 
-pub zero_none : (x : ℕ) → x ≡ 0 → select (bit x) 64 0 ≡ Nothing
+pub zero_none : (x : ℕ) → x ≡ 0 → select (bit x) 64 0 ≡ None
 zero_none x e =
     ap (λ (y : ℕ). select (bit y) 64 0) e ∙ select_none (bit 0) 64 0 (le_of_eq (count_zero (bit 0) 64 (λ i _. bit-above 0 i (pow_pos i))))
 
-pub at_some : (x t : ℕ) → select (bit x) 64 0 ≡ At t → x ≡ 0 → ⊥
-at_some x t s e = let n : select (bit x) 64 0 ≡ Nothing = zero_none x e in let z : ◌≡◌ {A = ℕ} 0 1 = cc in omega arith
+pub at_some : (x t : ℕ) → select (bit x) 64 0 ≡ Some t → x ≡ 0 → ⊥
+at_some x t s e = let n : select (bit x) 64 0 ≡ None = zero_none x e in let z : ◌≡◌ {A = ℕ} 0 1 = cc in omega arith
 
-pub none_zero : (x : ℕ) → x < 2 ^ 64 → select (bit x) 64 0 ≡ Nothing → x ≡ 0
+pub none_zero : (x : ℕ) → x < 2 ^ 64 → select (bit x) 64 0 ≡ None → x ≡ 0
 none_zero x h n = go (ℕ_discrete x 0)
   where
     found : (x ≡ 0 → ⊥) → x ≡ 0
     found z =
         let o = odd_times x (pos_of_ne-zero z) in
-        let a : select (bit x) 64 0 ≡ At o.0 = select_at (bit x) 64 0 o.0 (short x o.0 o.1 o.2 64 h) (bit-one x o.0 o.1 o.2) (none_below x o.0 o.1 o.2) in
+        let a : select (bit x) 64 0 ≡ Some o.0 = select_at (bit x) 64 0 o.0 (short x o.0 o.1 o.2 64 h) (bit-one x o.0 o.1 o.2) (none_below x o.0 o.1 o.2) in
         let c : ◌≡◌ {A = ℕ} 0 1 = cc in
         omega arith
 

@@ -1,5 +1,6 @@
 -- A word as its fields of k bits, the lowest first: what the byte-parallel functions inside the crate are promised by. Assumes nothing.
-use Rattle.std.specs.Prelude.{Bool, true, false, ℕ, zero, suc, ◌+◌, ◌*◌, ◌/◌, ◌%◌, ◌^◌, ◌<◌}
+pub use Rattle.errors.specs.Answer.{flag}
+use Rattle.std.specs.Prelude.{ℕ, zero, suc, ◌+◌, ◌*◌, ◌/◌, ◌%◌, ◌^◌, ◌<◌}
 
 -- the field i of x
 unfoldable pub digit : ℕ → ℕ → ℕ → ℕ
@@ -10,11 +11,6 @@ digit k x (suc i) = digit k (x / 2 ^ k) i
 unfoldable pub word : ℕ → (ℕ → ℕ) → ℕ → ℕ
 word k f zero = zero
 word k f (suc n) = word k (λ i. f (suc i)) n * 2 ^ k + f zero
-
--- a test as a bit
-abbrev pub flag : Bool → ℕ
-flag true = 1
-flag false = 0
 
 -- every byte of x is below 128
 abbrev pub LowBytes : ℕ → Type 0

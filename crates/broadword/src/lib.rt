@@ -1,26 +1,16 @@
 // Broadword tools: products that wrap, the number of ones of a word, and the places where they stand.
 //
-// All run in constant time. `select_in_word_by` and `lsb_by` are `select_in_word` and `lsb` for a caller that loops: they are lent the table, which
-// `select_in_byte_table` and `debruijn64_table` make, and demand that it is that table. `select_in_word_within` also demands that there is such a
-// one. The functions that are not public demand what they say.
+// All run in constant time. `select_in_word_within` demands that there is such a one. The functions that are not public demand what they say.
 #![tactic(auto)]
 
-ghost use Rattle.std.specs.Prelude.{◌≡◌, ℕ, ◌*◌, ◌%◌, ◌^◌, ◌<◌, leb};
+ghost use Rattle.std.specs.Prelude.{◌≡◌, ℕ, ◌*◌, ◌%◌, ◌^◌, ◌<◌, leb, Some, unwrap_or};
 ghost use Rattle.broadword.specs.Bits.{bit, ones};
 ghost use Rattle.broadword.specs.Fields.{digit, word, flag, LowBytes};
-ghost use Rattle.broadword.specs.Places.{last, select, or_else, SelectInByte, Debruijn64};
-ghost use Rattle.broadword.specs.declared.Found.TheVariants.{At};
+ghost use Rattle.broadword.specs.Places.{last, select};
 
 mod tables;
 
 use tables::{DEBRUIJN64_MAPPING, SELECT_IN_BYTE};
-
-// A place, or that there is none.
-#[derive(Clone, Copy)]
-pub enum Found {
-    At(usize),
-    Nothing,
-}
 
 pub const ONES_STEP_4: u64 = 0x1111_1111_1111_1111;
 
@@ -36,17 +26,11 @@ const INV_COUNT_STEP_9: u64 = 0x0040_4030_2014_0C07;
 
 const DEBRUIJN64: u64 = 0x07ED_D5E5_9A4E_28C2;
 
-// a × b modulo 2^64, by the halves of each: the product of the upper halves is a multiple of 2^64.
+// a × b modulo 2^64.
 pub fn wrapping_mul(a: u64, b: u64) -> u64
     ensures { result ≡ (a * b) % 2 ^ 64 }
 {
-    let a0 = a % 0x1_0000_0000;
-    let a1 = a / 0x1_0000_0000;
-    let b0 = b % 0x1_0000_0000;
-    let b1 = b / 0x1_0000_0000;
-    let lo = a0 * b0;
-    let hi = lo / 0x1_0000_0000 + a1 * b0 % 0x1_0000_0000 + a0 * b1 % 0x1_0000_0000;
-    hi % 0x1_0000_0000 * 0x1_0000_0000 + lo % 0x1_0000_0000
+    a.wrapping_mul(b)
 }
 
 // In each byte, whether that of x is at most that of y. It compares only bytes below 128.
@@ -89,102 +73,64 @@ pub fn popcount(x: u64) -> usize
     u64::count_ones(x) as usize
 }
 
-fn wide(x: u8) -> usize
-    ensures { result ≡ x }
-{
-    x as usize
-}
-
-// The table of `select_in_word_by`, made on the stack: for a caller that loops, once.
-pub fn select_in_byte_table() -> [u8; 2048]
-    ensures { SelectInByte result }
-{
-    SELECT_IN_BYTE
-}
-
 // The place in the byte b of the one that r ones stand before, and 8 where there is none.
-fn select_in_byte(table: &[u8; 2048], b: usize, r: usize) -> usize
-    requires { SelectInByte table.now × (b < 256) × (r < 8) }
-    ensures { result ≡ or_else (select (bit b) 8 r) 8 }
+fn select_in_byte(b: usize, r: usize) -> usize
+    requires { (b < 256) × (r < 8) }
+    ensures { result ≡ unwrap_or (select (bit b) 8 r) 8 }
 {
-    wide(table[b | (r << 8)])
+    SELECT_IN_BYTE[b | (r << 8)] as usize
 }
 
-// The place of the one that k ones stand before, in a word that has more than k, with the table lent.
-pub fn select_in_word_within(table: &[u8; 2048], x: u64, k: usize) -> usize
-    requires { SelectInByte table.now × (k < ones x 64) }
-    ensures { select (bit x) 64 k ≡ At result }
+// The place of the one that k ones stand before, in a word that has more than k.
+pub fn select_in_word_within(x: u64, k: usize) -> usize
+    requires { k < ones x 64 }
+    ensures { select (bit x) 64 k ≡ Some result }
 {
     let byte_sums = wrapping_mul(ONES_STEP_8, byte_counts(x));
     let k_step_8 = k as u64 * ONES_STEP_8;
     let geq_k_step_8 = ((k_step_8 | MSBS_STEP_8) - byte_sums) & MSBS_STEP_8;
     let place = ((wrapping_mul(geq_k_step_8 >> 7, ONES_STEP_8) >> 53) & !0x7) as usize;
     let byte_rank = k - (((byte_sums << 8) >> place) & 0xff) as usize;
-    place + select_in_byte(table, (x >> place) as usize & 0xff, byte_rank)
-}
-
-// `select_in_word`, with the table lent.
-pub fn select_in_word_by(table: &[u8; 2048], x: u64, k: usize) -> Found
-    requires { SelectInByte table.now }
-    ensures { result ≡ select (bit x) 64 k }
-{
-    if popcount(x) <= k {
-        return Found::Nothing;
-    }
-    Found::At(select_in_word_within(table, x, k))
+    place + select_in_byte((x >> place) as usize & 0xff, byte_rank)
 }
 
 // The place of the one that k ones stand before.
-pub fn select_in_word(x: u64, k: usize) -> Found
+pub fn select_in_word(x: u64, k: usize) -> Option<usize>
     ensures { result ≡ select (bit x) 64 k }
 {
-    let table = select_in_byte_table();
-    select_in_word_by(&table, x, k)
-}
-
-// The table of `lsb_by`, made on the stack: for a caller that loops, once.
-pub fn debruijn64_table() -> [u8; 64]
-    ensures { Debruijn64 result }
-{
-    DEBRUIJN64_MAPPING
+    if popcount(x) <= k {
+        return None;
+    }
+    Some(select_in_word_within(x, k))
 }
 
 // The place of the one bit of x that is set: each power of two shifts another six bits of DEBRUIJN64 to its top.
-fn bit_position(table: &[u8; 64], x: u64) -> usize
-    requires { Debruijn64 table.now × ((k : ℕ) × (k < 64) × (x ≡ 2 ^ k)) }
+fn bit_position(x: u64) -> usize
+    requires { (k : ℕ) × (k < 64) × (x ≡ 2 ^ k) }
     ensures { (k : ℕ) → k < 64 → x ≡ 2 ^ k → result ≡ k }
 {
-    wide(table[(wrapping_mul(DEBRUIJN64, x) >> 58) as usize])
-}
-
-// `lsb`, with the table lent.
-pub fn lsb_by(table: &[u8; 64], x: u64) -> Found
-    requires { Debruijn64 table.now }
-    ensures { result ≡ select (bit x) 64 0 }
-{
-    if x == 0 {
-        Found::Nothing
-    } else {
-        Found::At(bit_position(table, x & wrapping_mul(u64::MAX, x)))
-    }
+    DEBRUIJN64_MAPPING[(wrapping_mul(DEBRUIJN64, x) >> 58) as usize] as usize
 }
 
 // The place of the lowest one.
-pub fn lsb(x: u64) -> Found
+pub fn lsb(x: u64) -> Option<usize>
     ensures { result ≡ select (bit x) 64 0 }
 {
-    let table = debruijn64_table();
-    lsb_by(&table, x)
+    if x == 0 {
+        None
+    } else {
+        Some(bit_position(x & wrapping_mul(u64::MAX, x)))
+    }
 }
 
 // The place of the highest one.
-pub fn msb(x: u64) -> Found
+pub fn msb(x: u64) -> Option<usize>
     ensures { result ≡ last (bit x) 64 }
 {
     if x == 0 {
-        return Found::Nothing; // no highest one
+        return None; // no highest one
     }
     let zeros = u64::leading_zeros(x);
     let place = 63 - zeros;
-    Found::At(place as usize)
+    Some(place as usize)
 }

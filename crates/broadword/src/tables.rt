@@ -1,7 +1,7 @@
 // The two tables of broadword.rs.
 
 // At b + 256 × r, the place in the byte b of the one that r ones stand before, and 8 where there is none.
-pub const SELECT_IN_BYTE: [u8; 2048] = [
+pub static SELECT_IN_BYTE: [u8; 2048] = [
     8, 0, 1, 0, 2, 0, 1, 0, 3, 0, 1, 0, 2, 0, 1, 0, 4, 0, 1, 0, 2, 0, 1, 0, 3, 0, 1, 0, 2, 0, 1, 0,
     5, 0, 1, 0, 2, 0, 1, 0, 3, 0, 1, 0, 2, 0, 1, 0, 4, 0, 1, 0, 2, 0, 1, 0, 3, 0, 1, 0, 2, 0, 1, 0,
     6, 0, 1, 0, 2, 0, 1, 0, 3, 0, 1, 0, 2, 0, 1, 0, 4, 0, 1, 0, 2, 0, 1, 0, 3, 0, 1, 0, 2, 0, 1, 0,
@@ -69,7 +69,7 @@ pub const SELECT_IN_BYTE: [u8; 2048] = [
 ];
 
 // At the top six bits of DEBRUIJN64 × 2^k, k.
-pub const DEBRUIJN64_MAPPING: [u8; 64] = [
+pub static DEBRUIJN64_MAPPING: [u8; 64] = [
     63, 0, 58, 1, 59, 47, 53, 2, 60, 39, 48, 27, 54, 33, 42, 3, 61, 51, 37, 40, 49, 18, 28, 20, 55,
     30, 34, 11, 43, 14, 22, 4, 62, 57, 46, 52, 38, 26, 32, 41, 50, 36, 17, 19, 29, 10, 13, 21, 56,
     45, 25, 31, 35, 16, 9, 12, 44, 24, 15, 8, 23, 7, 6, 5,

@@ -9,9 +9,8 @@ use native.Mathlib.Omega.{arith}
 use borrow.Author.Tests.{le-leb, lt-leb, lt-ltb, le-ltb}
 use lib.ListN.{length, length-append, take, drop}
 use lib.Seq.{take_at}
-use Rattle.errors.specs.Answer.{value, refused, Outcome, leaves}
+use Rattle.errors.specs.Answer.{value, refused, Outcome, leaves, of_option}
 use Rattle.broadword.specs.Places.{select}
-use Rattle.bit_vectors.specs.Queries.{of_found}
 use Rattle.bit_words.specs.Vector.{bit_over, invalid}
 use Rattle.darray_positions.specs.Positions.{positions}
 use Rattle.darray_positions.specs.Index.{index_words}
@@ -50,7 +49,7 @@ module _ (ws : List ℕ) (len : ℕ) (b : Bool) (out : List ℕ) where
   unfolding select_built_of
   select_3 k h l g = rw (h, lt-leb (2 ^ 63) len l, lt-ltb (length out) (length I) g)
 
-  pub select_ok : (k : ℕ) → invalid ws len ≡ false → len < 2 ^ 63 → length I ≤ length out → select_built_of ws len b out k ≡ leaves (of_found (select (bit_over b ws) len k)) (I ++ drop (length I) out)
+  pub select_ok : (k : ℕ) → invalid ws len ≡ false → len < 2 ^ 63 → length I ≤ length out → select_built_of ws len b out k ≡ leaves (of_option (select (bit_over b ws) len k)) (I ++ drop (length I) out)
   unfolding select_built_of
   select_ok k h l g = rw (h, lt-leb (2 ^ 63) len l, le-ltb (length out) (length I) g)
 

@@ -1,4 +1,5 @@
 -- The cases of each call's definition, one law to a case. Assumes nothing.
+use Rattle.std.specs.Prelude.{Ok}
 use mathlib.Core.Path.{◌≡◌, ap₂}
 use mathlib.Core.List.{List, ◌++◌}
 use mathlib.Core.Bool.{Bool, true, false}
@@ -13,7 +14,6 @@ use Rattle.darray_positions.specs.Index.{blocks, lanes, overflow, index_words}
 use Rattle.darray.specs.Queries.{sizes, unmeasured, of_measured, measure_of, build_index_of, validate_of, same}
 use Rattle.darray.specs.Sizes.{Sized}
 use Rattle.darray.specs.declared.inner.Sizes.{Sizes}
-use Rattle.darray.specs.declared.inner.Measured.TheVariants as measured
 use Rattle.darray_positions.proofs.Index.{length-overflow}
 
 module _ (ws : List ℕ) (len : ℕ) (b : Bool) where
@@ -29,7 +29,7 @@ module _ (ws : List ℕ) (len : ℕ) (b : Bool) where
   unfolding measure_of
   measure_sizes h l = rw (h, lt-leb (2 ^ 63) len l)
 
-  pub measure_ok : invalid ws len ≡ false → len < 2 ^ 63 → (s : Sizes) → Sized (positions b ws len) s → measure_of ws len b ≡ of_measured (measured.Sizes s)
+  pub measure_ok : invalid ws len ≡ false → len < 2 ^ 63 → (s : Sizes) → Sized (positions b ws len) s → measure_of ws len b ≡ of_measured (Ok s)
   measure_ok h l s z =
       rw (measure_sizes h l)
       (cc (z.positions, z.entries, z.lanes, z.overflow, length-overflow (positions b ws len) (blocks (positions b ws len))))

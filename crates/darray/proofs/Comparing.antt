@@ -7,7 +7,6 @@ use native.Mathlib.Nat.{le_refl}
 use native.Mathlib.Omega.{arith}
 use lib.ListN.{length}
 use Rattle.broadword.specs.Bits.{count}
-use Rattle.broadword.specs.Places.{SelectInByte, Debruijn64}
 use Rattle.bit_words.specs.Vector.{bit_over}
 use Rattle.darray_positions.specs.Positions.{positions}
 use Rattle.darray_positions.specs.Index.{blocks, lanes, lane_words, before, index_words}
@@ -92,9 +91,8 @@ module _ (b : Bool) (ws : List ℕ) (len : ℕ) (s : Sizes) (l : List ℕ) (w : 
       pub first_there : 1024 * j < s.positions
       first_there = building.block_there b ws len right (length (index_words P)) writable j h
 
-      pub load_ready : (t m : List ℕ) → SelectInByte t → Debruijn64 m
-          → (length a ≡ 1024) × SelectInByte t × Debruijn64 m × Ahead (bit_over b ws) from (1024 * j) × Inside (bit_over b ws) (length ws) (last_in_block s.positions j) × (1024 * j < s.positions)
-      load_ready t m r d = (x.long, r, d, x.ahead, building.inside b ws len right (length (index_words P)) writable j (min 1024 (s.positions - 1024 * j)) h refl (1024 * j) refl, first_there)
+      pub load_ready : (length a ≡ 1024) × Ahead (bit_over b ws) from (1024 * j) × Inside (bit_over b ws) (length ws) (last_in_block s.positions j) × (1024 * j < s.positions)
+      load_ready = (x.long, x.ahead, building.inside b ws len right (length (index_words P)) writable j (min 1024 (s.positions - 1024 * j)) h refl (1024 * j) refl, first_there)
 
       module _ (z : ℕ) (ez : z ≡ min 1024 (s.positions - 1024 * j)) (a' : List ℕ) (c : Cursor) (y : Loaded (bit_over b ws) (1024 * j) (min 1024 (s.positions - 1024 * j)) a' c) where
         stored : Shows P j a'

@@ -1,4 +1,5 @@
 -- Positions taken one by one from the words. Assumes nothing.
+use Rattle.std.specs.Prelude.{Some, None}
 use mathlib.Core.Path.{◌≡◌, refl, sym, ap, ◌∙◌}
 use mathlib.Core.List.{List}
 use mathlib.Core.Bool.{Bool}
@@ -9,7 +10,6 @@ use native.Mathlib.Omega.{arith}
 use lib.ListN.{get_or}
 use Rattle.broadword.specs.Bits.{bit, count, ones}
 use Rattle.broadword.specs.Places.{select}
-use Rattle.broadword.specs.declared.Found.TheVariants.{At, Nothing}
 use Rattle.broadword.proofs.Count.{bit_le, count_mono}
 use Rattle.broadword.proofs.Find.{selected, select_at, select_some}
 use Rattle.bit_words.specs.Vector.{bit_over, word_over}
@@ -30,7 +30,7 @@ unfolding count
 count_more f n = refl
 
 -- where no place is found, no more than k ones stand
-few : (w k : ℕ) → select (bit w) 64 k ≡ Nothing → ones w 64 ≤ k
+few : (w k : ℕ) → select (bit w) 64 k ≡ None → ones w 64 ≤ k
 few w k e = by (dec_le (ones w 64) k)
   where
     by : Dec (ones w 64 ≤ k) → ones w 64 ≤ k
@@ -43,11 +43,11 @@ few w k e = by (dec_le (ones w 64) k)
 
 module _ (b : Bool) (ws : List ℕ) (fit : Fit ws) (i w k : ℕ) (l : Left b ws i w k) where
   -- nothing is left: the next word is taken from
-  pub left_next : select (bit w) 64 0 ≡ Nothing → Left b ws (i + 1) (word_over b (get_or ws (i + 1) 0)) k
+  pub left_next : select (bit w) 64 0 ≡ None → Left b ws (i + 1) (word_over b (get_or ws (i + 1) 0)) k
   left_next z =
       let n : ℕ = count (bit_over b ws) (i * 64) in
       let v : ℕ = word_over b (get_or ws i 0) in
-      let s : select (bit v) 64 (k - n + 0) ≡ Nothing = sym (l.ones_left 0) ∙ z in
+      let s : select (bit v) 64 (k - n + 0) ≡ None = sym (l.ones_left 0) ∙ z in
       let e : k ≡ count (bit_over b ws) ((i + 1) * 64) = omega (arith, few v (k - n + 0) s, l.low, l.high, counts.count_up b ws fit n i (ones v 64) refl refl) in
       record {
         low = le_of_eq (sym e);
@@ -55,8 +55,8 @@ module _ (b : Bool) (ws : List ℕ) (fit : Fit ws) (i w k : ℕ) (l : Left b ws 
         ones_left = λ d. let q : k - count (bit_over b ws) ((i + 1) * 64) + d ≡ d = omega arith in ap (select (bit (word_over b (get_or ws (i + 1) 0))) 64) (sym q);
       }
 
-  module _ (s : ℕ) (at : At s ≡ select (bit w) 64 0) where
-    found : At s ≡ select (bit (word_over b (get_or ws i 0))) 64 (k - count (bit_over b ws) (i * 64))
+  module _ (s : ℕ) (at : Some s ≡ select (bit w) 64 0) where
+    found : Some s ≡ select (bit (word_over b (get_or ws i 0))) 64 (k - count (bit_over b ws) (i * 64))
     found = at ∙ l.ones_left 0 ∙ ap (select (bit (word_over b (get_or ws i 0))) 64) (let q : k - count (bit_over b ws) (i * 64) + 0 ≡ k - count (bit_over b ws) (i * 64) = omega arith in q)
 
     -- the lowest one that is left is the next position

@@ -1,4 +1,5 @@
 -- What the words of an index say of the position with the number k: its block's entry, and its overflow place or its lane. Assumes nothing.
+use Rattle.std.specs.Prelude.{Some, None}
 use mathlib.Core.Path.{◌≡◌, refl, sym, ap, ap₂, ◌∙◌}
 use mathlib.Core.List.{List}
 use mathlib.Core.Bool.{Bool, true, false}
@@ -9,7 +10,6 @@ use lib.Bits.{bit_and}
 use lib.ListN.{length, get_or}
 use Rattle.broadword.specs.Bits.{count}
 use Rattle.broadword.specs.Places.{select}
-use Rattle.broadword.specs.declared.Found.TheVariants.{At, Nothing}
 use Rattle.broadword.proofs.Count.{count_le, count_mono}
 use Rattle.broadword.proofs.Find.{Selected, select_none}
 use Rattle.bit_words.specs.Vector.{bit_over, words_for}
@@ -24,7 +24,7 @@ use Rattle.darray_positions.proofs.Index as laws
 use Rattle.darray_positions.proofs.Positions as found
 use Rattle.darray.proofs.Signed.{entry_low, entry_high}
 
-module _ (ws : List ℕ) (len : ℕ) (b : Bool) (index : List ℕ) (n : ℕ) (table : List ℕ) (I : Indexed ws len b index n table) where
+module _ (ws : List ℕ) (len : ℕ) (b : Bool) (index : List ℕ) (n : ℕ) (I : Indexed ws len b index n) where
   abbrev P : List ℕ
   P = positions b ws len
 
@@ -37,7 +37,7 @@ module _ (ws : List ℕ) (len : ℕ) (b : Bool) (index : List ℕ) (n : ℕ) (ta
   pub number_lt : n < 2 ^ 63
   number_lt = lt_of_le_of_lt (le_trans (le_of_eq number) (count_le f len (bit_over_le b ws))) I.short
 
-  pub too_few : (k : ℕ) → n ≤ k → Nothing ≡ select f len k
+  pub too_few : (k : ℕ) → n ≤ k → None ≡ select f len k
   too_few k h = sym (select_none f len k (le_trans (le_of_eq (sym number)) h))
 
   abbrev E : ℕ
@@ -67,7 +67,7 @@ module _ (ws : List ℕ) (len : ℕ) (b : Bool) (index : List ℕ) (n : ℕ) (ta
     in_blocks : j < blocks P
     in_blocks = let e = blocks_are in omega arith
 
-    select_is : select f len k ≡ At (pos P k)
+    select_is : select f len k ≡ Some (pos P k)
     unfolding pos
     select_is = found.place_select f (bit_over_le b ws) len k in_count
 
@@ -155,12 +155,12 @@ module _ (ws : List ℕ) (len : ℕ) (b : Bool) (index : List ℕ) (n : ℕ) (ta
           let q = kind.1 in
           omega arith
 
-      pub overflow_is : At (get_or index (E + L + x + k % 1024) 0) ≡ select f len k
+      pub overflow_is : Some (get_or index (E + L + x + k % 1024) 0) ≡ select f len k
       overflow_is =
           let q = kind.1 in
           let p : E + L + x + k % 1024 ≡ blocks P + lane_words P + (before P j + k % 1024) = (let u = blocks_are in let v = lane-words_are in omega arith) in
           let d : 1024 * j + k % 1024 ≡ k = omega arith in
-          ap At (ap₂ (λ (l : List ℕ) (i : ℕ). get_or l i 0) I.is p ∙ laws.index_spilled P j (k % 1024) in_spill in_blocks ∙ ap (pos P) d) ∙ sym select_is
+          ap Some (ap₂ (λ (l : List ℕ) (i : ℕ). get_or l i 0) I.is p ∙ laws.index_spilled P j (k % 1024) in_spill in_blocks ∙ ap (pos P) d) ∙ sym select_is
 
     -- ---- a block with distances
 
@@ -204,15 +204,15 @@ module _ (ws : List ℕ) (len : ℕ) (b : Bool) (index : List ℕ) (n : ℕ) (ta
       pub start_lt : x + d < len
       start_lt = lt_of_le_of_lt (le_of_eq start_is) start_has.within
 
-      pub exact : k % 32 ≡ 0 → At (x + d) ≡ select f len k
-      exact z = ap At (start_is ∙ ap (pos P) (let e : 32 * (k / 32) ≡ k = omega arith in e)) ∙ sym select_is
+      pub exact : k % 32 ≡ 0 → Some (x + d) ≡ select f len k
+      exact z = ap Some (start_is ∙ ap (pos P) (let e : 32 * (k / 32) ≡ k = omega arith in e)) ∙ sym select_is
 
-      pub findable : (used : ℕ) → used ≡ words_for len → Findable ws used (x + d) table
+      pub findable : (used : ℕ) → used ≡ words_for len → Findable ws used (x + d)
       findable used e =
           let l = start_lt in
           let r = (valid ws len I.ok).room in
           let s = I.short in
-          record { start = omega arith; room = omega arith; few = omega arith; rule = I.rule }
+          record { start = omega arith; room = omega arith; few = omega arith }
 
       counted : count f (x + d) + k % 32 ≡ k
       counted = let a : count f (x + d) ≡ 32 * (k / 32) = ap (count f) start_is ∙ start_has.before in omega arith

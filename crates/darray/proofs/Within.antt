@@ -1,4 +1,5 @@
 -- The index in the words that hold the bits: the lent part of them stays, and what a measure says to the caller that writes it. Assumes nothing.
+use Rattle.std.specs.Prelude.{Ok}
 use mathlib.Core.Path.{◌≡◌, refl, sym, ap, ◌∙◌}
 use mathlib.Core.List.{List}
 use mathlib.Core.Bool.{Bool, true, false}
@@ -14,7 +15,6 @@ use Rattle.darray_positions.specs.Index.{blocks, overflow}
 use Rattle.darray.specs.Sizes.{Sized}
 use Rattle.darray.specs.Queries.{unmeasured, of_measured, measure_of}
 use Rattle.darray.specs.declared.inner.Sizes.{Sizes}
-use Rattle.darray.specs.declared.inner.Measured.TheVariants as measured
 use Rattle.darray_positions.proofs.Index as index
 use Rattle.darray.proofs.Cases as cases
 
@@ -32,7 +32,7 @@ part_is l₀ l first len at end h k q e d =
 
 -- ---- what a measure says
 
-module _ (b : Bool) (ws : List ℕ) (len : ℕ) (s : Sizes) (e : of_measured (measured.Sizes s) ≡ measure_of ws len b) where
+module _ (b : Bool) (ws : List ℕ) (len : ℕ) (s : Sizes) (e : of_measured (Ok s) ≡ measure_of ws len b) where
   -- the bits are a vector, of fewer than 2^63
   pub measured_valid : (invalid ws len ≡ false) × (len < 2 ^ 63)
   measured_valid = go (invalid ws len) refl (dec_le (2 ^ 63) len)

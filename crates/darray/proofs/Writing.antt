@@ -8,7 +8,6 @@ use native.Mathlib.Omega.{arith}
 use lib.ListN.{length, get_or, set, take, drop, length-drop, take-append-drop}
 use lib.Seq.{take-set-le, drop-set-add}
 use Rattle.broadword.specs.Bits.{count}
-use Rattle.broadword.specs.Places.{SelectInByte, Debruijn64}
 use Rattle.bit_words.specs.Vector.{bit_over}
 use Rattle.darray_positions.specs.Positions.{positions}
 use Rattle.darray_positions.specs.Index.{blocks, lanes, before, index_words}
@@ -120,10 +119,10 @@ module _ (b : Bool) (ws : List ℕ) (len : ℕ) (l₀ : List ℕ) (at : ℕ) (s 
       pub first_there : 1024 * j < s.positions
       first_there = building.block_there b ws len s (length l₀ - at) w j h
 
-      pub load_ready : (t m : List ℕ) → SelectInByte t → Debruijn64 m → (length a ≡ 1024) × SelectInByte t × Debruijn64 m × Ahead (bit_over b v) from (1024 * j) × Inside (bit_over b v) (length v) (last_in_block s.positions j) × (1024 * j < s.positions)
-      load_ready t m r d =
-          subst⁻¹ (λ (y : List ℕ). (length a ≡ 1024) × SelectInByte t × Debruijn64 m × Ahead (bit_over b y) from (1024 * j) × Inside (bit_over b y) (length y) (last_in_block s.positions j) × (1024 * j < s.positions)) ev
-          (x.long, r, d, x.ahead, building.inside b ws len s (length l₀ - at) w j (min 1024 (s.positions - 1024 * j)) h refl (1024 * j) refl, first_there)
+      pub load_ready : (length a ≡ 1024) × Ahead (bit_over b v) from (1024 * j) × Inside (bit_over b v) (length v) (last_in_block s.positions j) × (1024 * j < s.positions)
+      load_ready =
+          subst⁻¹ (λ (y : List ℕ). (length a ≡ 1024) × Ahead (bit_over b y) from (1024 * j) × Inside (bit_over b y) (length y) (last_in_block s.positions j) × (1024 * j < s.positions)) ev
+          (x.long, x.ahead, building.inside b ws len s (length l₀ - at) w j (min 1024 (s.positions - 1024 * j)) h refl (1024 * j) refl, first_there)
 
       module _ (z : ℕ) (ez : z ≡ min 1024 (s.positions - 1024 * j)) (a' : List ℕ) (c : Cursor) (y : Loaded (bit_over b v) (1024 * j) (min 1024 (s.positions - 1024 * j)) a' c) where
         loaded : Loaded (bit_over b ws) (1024 * j) (min 1024 (s.positions - 1024 * j)) a' c

@@ -1,14 +1,11 @@
 -- The pending positions of a block: which of them are stored, and what a flush writes of them. It is what functions inside the
 -- crate are promised by: no public contract rests on it. Assumes nothing.
-use Rattle.std.specs.Prelude.{◌≡◌, List, Bool, true, false, cond, ℕ, zero, suc, ◌+◌, ◌-◌, ◌*◌, ◌/◌, ◌%◌, ◌^◌, ◌≤◌, ◌<◌, leb, ltb, length, get_or, set}
+use Rattle.std.specs.Prelude.{◌≡◌, List, Bool, true, false, cond, ℕ, zero, suc, ◌+◌, ◌-◌, ◌*◌, ◌/◌, ◌%◌, ◌^◌, ◌≤◌, ◌<◌, leb, ltb, length, get_or, set, Some, None, Option}
 use Rattle.broadword.specs.Fields.{word}
-use Rattle.broadword.specs.Places.{SelectInByte, Debruijn64}
 use Rattle.darray_positions.specs.Scan.{Position, Ahead, Inside, Hits}
 use Rattle.darray_positions.specs.declared.scan.Cursor.{Cursor}
 use Rattle.darray_positions.specs.declared.scan.Hit.{Hit}
 use Rattle.darray.specs.declared.pending.Pending.{Pending}
-use Rattle.darray.specs.declared.pending.Compared.{Compared}
-use Rattle.darray.specs.declared.pending.Compared.TheVariants as compared
 use Rattle.darray.specs.declared.inner.Sizes.{Sizes}
 
 -- the positions of a block that its words need: all of a wide one, else every 32nd
@@ -22,13 +19,11 @@ pub record Sampled (f : ℕ → ℕ) (k size : ℕ) (wide : Bool) (a : List ℕ)
   pub stored : (i : ℕ) → i < size → Due wide i → Position f (k + i) (get_or a i 0)
   pub last : Position f (k + (size - 1)) (get_or a (size - 1) 0)
 
--- what loading a block from its first position h on needs: its `size` positions from the number k on in m words, the tables, and room
-pub record Loadable (f : ℕ → ℕ) (m k size : ℕ) (h : Hit) (table lowest a : List ℕ) : Type 0 where
+-- what loading a block from its first position h on needs: its `size` positions from the number k on in m words, and room
+pub record Loadable (f : ℕ → ℕ) (m k size : ℕ) (h : Hit) (a : List ℕ) : Type 0 where
   pub long : length a ≡ 1024
   pub some : 0 < size
   pub few : size ≤ 1024
-  pub rule : SelectInByte table
-  pub mapping : Debruijn64 lowest
   pub hits : Hits f k h
   pub inside : Inside f m (k + (size - 1))
 
@@ -119,6 +114,6 @@ pub record SameWords (a : List ℕ) (n : ℕ) (s : Sizes) (j o : ℕ) (l : List 
   pub room : o + block_spill a n ≤ s.overflow
   pub matches : Matches a n (0 + j) (lanes_at 0 s j) o (over_at 0 s o) l
 
-abbrev pub Compares : List ℕ → ℕ → Sizes → ℕ → ℕ → List ℕ → Compared → Type 0
-Compares a n s j o l (compared.Same k) = (k ≡ block_spill a n) × SameWords a n s j o l
-Compares a n s j o l compared.Other = SameWords a n s j o l → ⊥
+abbrev pub Compares : List ℕ → ℕ → Sizes → ℕ → ℕ → List ℕ → Option ℕ → Type 0
+Compares a n s j o l (Some k) = (k ≡ block_spill a n) × SameWords a n s j o l
+Compares a n s j o l None = SameWords a n s j o l → ⊥

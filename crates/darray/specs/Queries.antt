@@ -1,20 +1,15 @@
 -- What each call of the index answers and leaves. Document 01 has no refusal for a select index alone: 13 is that of its bit
 -- calls, 3 that of a short buffer, and 2 stands for a length of 2^63 bits or more, which no memory holds. Assumes nothing.
-use Rattle.std.specs.Prelude.{List, [], ◌∷◌, ◌++◌, Bool, true, false, ◌&&◌, cond, ℕ, ◌^◌, eqb, leb, ltb, length, drop}
+use Rattle.darray.specs.declared.inner.Sizes.{Sizes}
+use Rattle.errors.specs.declared.Refusal.{Refusal}
+use Rattle.std.specs.Prelude.{List, [], ◌∷◌, ◌++◌, Bool, true, false, ◌&&◌, cond, ℕ, ◌^◌, eqb, leb, ltb, length, drop, Ok, Err, Result}
 use Rattle.errors.specs.Refusal.{number_of}
-use Rattle.errors.specs.Answer.{Answer, value, refused, Outcome, leaves}
+use Rattle.errors.specs.Answer.{Answer, value, refused, Outcome, leaves, of_option}
 use Rattle.broadword.specs.Fields.{flag}
 use Rattle.broadword.specs.Places.{select}
-use Rattle.bit_vectors.specs.Queries.{of_found}
 use Rattle.bit_words.specs.Vector.{bit_over, invalid}
 use Rattle.darray_positions.specs.Positions.{positions}
 use Rattle.darray_positions.specs.Index.{blocks, lanes, overflow, index_words}
-use Rattle.darray.specs.declared.inner.Measured.{Measured}
-use Rattle.darray.specs.declared.inner.Measured.TheVariants as measured
-use Rattle.darray.specs.declared.inner.Built.{Built}
-use Rattle.darray.specs.declared.inner.Built.TheVariants as built
-use Rattle.darray.specs.declared.inner.Validated.{Validated}
-use Rattle.darray.specs.declared.inner.Validated.TheVariants as validated
 
 -- ---- the cases of each answer, in document 01's terms
 
@@ -23,17 +18,9 @@ pub data Measure : Type 0 where
   sizes : ℕ → ℕ → ℕ → ℕ → Measure
   unmeasured : ℕ → Measure
 
-abbrev pub of_measured : Measured → Measure
-of_measured (measured.Sizes s) = sizes s.positions s.entries s.lanes s.overflow
-of_measured (measured.Refused e) = unmeasured (number_of e)
-
-abbrev pub of_built_index : Built → Answer
-of_built_index (built.Words n) = value n
-of_built_index (built.Refused e) = refused (number_of e)
-
-abbrev pub of_validated : Validated → Answer
-of_validated (validated.Is b) = value (flag b)
-of_validated (validated.Refused e) = refused (number_of e)
+abbrev pub of_measured : Result Sizes Refusal → Measure
+of_measured (Ok s) = sizes s.positions s.entries s.lanes s.overflow
+of_measured (Err e) = unmeasured (number_of e)
 
 -- ---- the calls
 
@@ -72,5 +59,5 @@ module _ (ws : List ℕ) (len : ℕ) (b : Bool) where
       cond (invalid ws len) (leaves (refused 13) out)
       (cond (leb (2 ^ 63) len) (leaves (refused 2) out)
       (cond (ltb (length out) (length (index_words (positions b ws len)))) (leaves (refused 3) out)
-      (leaves (of_found (select (bit_over b ws) len k))
+      (leaves (of_option (select (bit_over b ws) len k))
       (index_words (positions b ws len) ++ drop (length (index_words (positions b ws len))) out))))

@@ -1,6 +1,5 @@
 -- What select through the index demands, and how an entry is read. Assumes nothing.
 use Rattle.std.specs.Prelude.{◌≡◌, List, Bool, false, cond, ℕ, ◌-◌, ◌^◌, ◌<◌, ltb, ℤ, pos, negsuc, length}
-use Rattle.broadword.specs.Places.{SelectInByte}
 use Rattle.bit_words.specs.Vector.{invalid}
 use Rattle.darray_positions.specs.Index.{index_words}
 use Rattle.darray_positions.specs.Positions.{positions}
@@ -16,9 +15,8 @@ abbrev pub entry_of : ℕ → Entry
 entry_of w = cond (ltb w (2 ^ 63)) (First w) (Overflow (2 ^ 64 - 1 - w))
 
 -- the index is that of the bits, which are fewer than 2^63, and n is how many positions it has
-pub record Indexed (ws : List ℕ) (len : ℕ) (b : Bool) (index : List ℕ) (n : ℕ) (table : List ℕ) : Type 0 where
+pub record Indexed (ws : List ℕ) (len : ℕ) (b : Bool) (index : List ℕ) (n : ℕ) : Type 0 where
   pub ok : invalid ws len ≡ false
   pub short : len < 2 ^ 63
   pub is : index ≡ index_words (positions b ws len)
   pub number : n ≡ length (positions b ws len)
-  pub rule : SelectInByte table

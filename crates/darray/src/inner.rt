@@ -7,20 +7,18 @@
 //
 // `write_within` and `is_index` are inner: both demand how many positions the bits have, the first also room for the index.
 ghost use Rattle.std.specs.Prelude.{◌≡◌, ◌++◌, ◌+◌, ◌-◌, ◌/◌, ◌^◌, ◌≤◌, ◌<◌, length, take, drop};
-ghost use Rattle.errors.specs.Answer.{leaves};
+ghost use Rattle.errors.specs.Answer.{leaves, of_result, of_truth};
 ghost use Rattle.broadword.specs.Bits.{count};
-ghost use Rattle.broadword.specs.Places.{SelectInByte, Debruijn64};
 ghost use Rattle.bit_words.specs.Vector.{words_for, bit_over};
 ghost use Rattle.darray_positions.specs.Positions.{positions};
 ghost use Rattle.darray_positions.specs.Index.{blocks, before, index_words};
 ghost use Rattle.darray.specs.Pending.{Decides};
-ghost use Rattle.darray.specs.Queries.{of_measured, of_built_index, of_validated, measure_of, build_index_of, validate_of};
+ghost use Rattle.darray.specs.Queries.{of_measured, measure_of, build_index_of, validate_of};
 ghost use Rattle.darray_positions.specs.Scan.{FullBlocks};
 ghost use Rattle.darray.specs.Sizes.{sizes_by, Sized, Writable, Comparable};
 
-use crate::pending::{Compared, compare, empty, flush, load, spill};
+use crate::pending::{compare, empty, flush, load, spill};
 use bit_words::{is_invalid, words_for};
-use broadword::{debruijn64_table, select_in_byte_table};
 use darray_positions::scan::{
     BLOCK_LEN, Cursor, Full, SUBBLOCK_LEN, block_size, count_positions, ends, full_blocks, spilled,
     tail_positions,
@@ -39,83 +37,55 @@ pub struct Sizes {
     pub overflow: usize,
 }
 
-// The sizes, or why there are none.
-#[derive(Clone, Copy)]
-pub enum Measured {
-    Sizes(Sizes),
-    Refused(Refusal),
-}
-
-// How many words were written.
-#[derive(Clone, Copy)]
-pub enum Built {
-    Words(usize),
-    Refused(Refusal),
-}
-
-// Whether an index is that of the bits.
-#[derive(Clone, Copy)]
-pub enum Validated {
-    Is(bool),
-    Refused(Refusal),
-}
-
 // The sizes of the index over the ones or the zeros of a bit vector.
-pub fn measure(words: &[u64], len: usize, over_one: bool) -> Measured
+pub fn measure(words: &[u64], len: usize, over_one: bool) -> Result<Sizes, Refusal>
     ensures { of_measured result ≡ measure_of words.now len over_one }
 {
     if is_invalid(words, len) {
-        return Measured::Refused(Refusal::InvalidBits);
+        return Err(Refusal::InvalidBits);
     }
     if len >= MAX_LEN {
-        return Measured::Refused(Refusal::TooMany);
+        return Err(Refusal::TooMany);
     }
-    Measured::Sizes(sizes_of(words, len, over_one))
+    Ok(sizes_of(words, len, over_one))
 }
 
 // Writes the index over the ones or the zeros of a bit vector to the front of `out`, and leaves its later words.
-pub fn build(words: &[u64], len: usize, over_one: bool, out: &mut [u64]) -> Built
-    ensures { leaves (of_built_index result) out.new ≡ build_index_of words.now len over_one out.old }
+pub fn build(words: &[u64], len: usize, over_one: bool, out: &mut [u64]) -> Result<usize, Refusal>
+    ensures { leaves (of_result result) out.new ≡ build_index_of words.now len over_one out.old }
 {
     if is_invalid(words, len) {
-        return Built::Refused(Refusal::InvalidBits);
+        return Err(Refusal::InvalidBits);
     }
     if len >= MAX_LEN {
-        return Built::Refused(Refusal::TooMany);
+        return Err(Refusal::TooMany);
     }
     let s = sizes_of(words, len, over_one);
     let n = total(s);
     if out.len() < n {
-        return Built::Refused(Refusal::ShortBuffer);
+        return Err(Refusal::ShortBuffer);
     }
     write(words, len, over_one, s, &mut *out);
-    Built::Words(n)
+    Ok(n)
 }
 
 // Whether an index is that over the ones or the zeros of a bit vector.
-pub fn validate(words: &[u64], len: usize, over_one: bool, index: &[u64]) -> Validated
-    ensures { of_validated result ≡ validate_of words.now len over_one index.now }
+pub fn validate(words: &[u64], len: usize, over_one: bool, index: &[u64]) -> Result<bool, Refusal>
+    ensures { of_truth result ≡ validate_of words.now len over_one index.now }
 {
     if is_invalid(words, len) {
-        return Validated::Refused(Refusal::InvalidBits);
+        return Err(Refusal::InvalidBits);
     }
     if len >= MAX_LEN {
-        return Validated::Refused(Refusal::TooMany);
+        return Err(Refusal::TooMany);
     }
     let n = count_positions(words, len, over_one);
-    Validated::Is(is_index(words, len, over_one, n, index))
+    Ok(is_index(words, len, over_one, n, index))
 }
 
 // How many positions go to the overflow in all, where it is known of the full blocks. There are n positions.
-fn overflow_of(
-    table: &[u8; 2048],
-    words: &[u64],
-    len: usize,
-    over_one: bool,
-    n: usize,
-    full: Full,
-) -> usize
-    requires { SelectInByte table.now × (words_for len ≤ length words.now) × (len < 2 ^ 63) × (n ≡ count (bit_over over_one words.now) len) × FullBlocks over_one words.now len full }
+fn overflow_of(words: &[u64], len: usize, over_one: bool, n: usize, full: Full) -> usize
+    requires { (words_for len ≤ length words.now) × (len < 2 ^ 63) × (n ≡ count (bit_over over_one words.now) len) × FullBlocks over_one words.now len full }
     ensures { result ≡ before (positions over_one words.now len) ((n + 1023) / 1024) }
 {
     let blocks = (n + (BLOCK_LEN - 1)) / BLOCK_LEN;
@@ -123,7 +93,7 @@ fn overflow_of(
     let mut at = full.from;
     let mut j = full.blocks;
     while j < blocks {
-        let s = ends(table, words, over_one, n, j, at);
+        let s = ends(words, over_one, n, j, at);
         overflow += spilled(s.first, s.last, block_size(n, j));
         let next = s.next;
         at = next;
@@ -150,10 +120,9 @@ fn sizes_of(words: &[u64], len: usize, over_one: bool) -> Sizes
     requires { (words_for len ≤ length words.now) × (len < 2 ^ 63) }
     ensures { Sized (positions over_one words.now len) result }
 {
-    let table = select_in_byte_table();
-    let full = full_blocks(&table, words, len, over_one);
+    let full = full_blocks(words, len, over_one);
     let n = full.positions + tail_positions(words, len, over_one);
-    sizes_by(n, overflow_of(&table, words, len, over_one, n, full))
+    sizes_by(n, overflow_of(words, len, over_one, n, full))
 }
 
 // How many words the index has.
@@ -165,16 +134,8 @@ fn total(s: Sizes) -> usize
 }
 
 // Writes the index of the bits, whose sizes are s, block by block. (`len` says in the contract which bits those are.)
-fn write_blocks(
-    table: &[u8; 2048],
-    lowest: &[u8; 64],
-    words: &[u64],
-    len: usize,
-    over_one: bool,
-    s: Sizes,
-    out: &mut [u64],
-)
-    requires { SelectInByte table.now × Debruijn64 lowest.now × Writable (positions over_one words.now len) len (length words.now) s (length out.old) }
+fn write(words: &[u64], len: usize, over_one: bool, s: Sizes, out: &mut [u64])
+    requires { Writable (positions over_one words.now len) len (length words.now) s (length out.old) }
     ensures { out.new ≡ index_words (positions over_one words.now len) ++ drop (length (index_words (positions over_one words.now len))) out.old }
 {
     let n = s.positions;
@@ -185,7 +146,7 @@ fn write_blocks(
     let mut j: usize = 0;
     while j < blocks {
         let size = block_size(n, j);
-        let next = load(&mut p.positions, table, lowest, words, over_one, n, j, from);
+        let next = load(&mut p.positions, words, over_one, n, j, from);
         from = next;
         p.count = size;
         let more = spill(&p.positions, size);
@@ -195,22 +156,10 @@ fn write_blocks(
     }
 }
 
-// The same, with the tables made here.
-fn write(words: &[u64], len: usize, over_one: bool, s: Sizes, out: &mut [u64])
-    requires { Writable (positions over_one words.now len) len (length words.now) s (length out.old) }
-    ensures { out.new ≡ index_words (positions over_one words.now len) ++ drop (length (index_words (positions over_one words.now len))) out.old }
-{
-    let table = select_in_byte_table();
-    let lowest = debruijn64_table();
-    write_blocks(&table, &lowest, words, len, over_one, s, out);
-}
-
-// Writes the index to the words that hold the bits too, from the place `at` on. It is the loop of `write_blocks`: there the bits are lent beside
+// Writes the index to the words that hold the bits too, from the place `at` on. It is the loop of `write`: there the bits are lent beside
 // the words that are written, and here they cannot be. The bits are the first len of the words from `first` on, and end
 // before that place. How many positions go to the overflow is not known before, and comes back.
 fn write_blocks_within(
-    table: &[u8; 2048],
-    lowest: &[u8; 64],
     buf: &mut [u64],
     first: usize,
     len: usize,
@@ -218,7 +167,7 @@ fn write_blocks_within(
     s: Sizes,
     at: usize,
 ) -> usize
-    requires { SelectInByte table.now × Debruijn64 lowest.now × (first + words_for len ≤ at) × (at ≤ length buf.old) × Writable (positions over_one (take (words_for len) (drop first buf.old)) len) len (length (take (words_for len) (drop first buf.old))) s (length buf.old - at) }
+    requires { (first + words_for len ≤ at) × (at ≤ length buf.old) × Writable (positions over_one (take (words_for len) (drop first buf.old)) len) len (length (take (words_for len) (drop first buf.old))) s (length buf.old - at) }
     ensures { (buf.new ≡ take at buf.old ++ (index_words (positions over_one (take (words_for len) (drop first buf.old)) len) ++ drop (length (index_words (positions over_one (take (words_for len) (drop first buf.old)) len))) (drop at buf.old))) × (result ≡ before (positions over_one (take (words_for len) (drop first buf.old)) len) (blocks (positions over_one (take (words_for len) (drop first buf.old)) len))) }
 {
     let end = first + words_for(len);
@@ -230,16 +179,7 @@ fn write_blocks_within(
     let mut j: usize = 0;
     while j < blocks {
         let size = block_size(n, j);
-        let next = load(
-            &mut p.positions,
-            table,
-            lowest,
-            &buf[first..end],
-            over_one,
-            n,
-            j,
-            from,
-        );
+        let next = load(&mut p.positions, &buf[first..end], over_one, n, j, from);
         from = next;
         p.count = size;
         let more = spill(&p.positions, size);
@@ -250,7 +190,7 @@ fn write_blocks_within(
     over
 }
 
-// The same for n positions, with the tables made here. (Of the sizes the overflow, 0 here, is not looked at.)
+// The same for n positions. (Of the sizes the overflow, 0 here, is not looked at.)
 pub fn write_within(
     buf: &mut [u64],
     first: usize,
@@ -262,18 +202,7 @@ pub fn write_within(
     requires { (first + words_for len ≤ at) × (at ≤ length buf.old) × Writable (positions over_one (take (words_for len) (drop first buf.old)) len) len (length (take (words_for len) (drop first buf.old))) (sizes_by n 0) (length buf.old - at) }
     ensures { (buf.new ≡ take at buf.old ++ (index_words (positions over_one (take (words_for len) (drop first buf.old)) len) ++ drop (length (index_words (positions over_one (take (words_for len) (drop first buf.old)) len))) (drop at buf.old))) × (result ≡ before (positions over_one (take (words_for len) (drop first buf.old)) len) (blocks (positions over_one (take (words_for len) (drop first buf.old)) len))) }
 {
-    let table = select_in_byte_table();
-    let lowest = debruijn64_table();
-    write_blocks_within(
-        &table,
-        &lowest,
-        buf,
-        first,
-        len,
-        over_one,
-        sizes_by(n, 0),
-        at,
-    )
+    write_blocks_within(buf, first, len, over_one, sizes_by(n, 0), at)
 }
 
 // Whether the words are the index over the ones or the zeros of the bits, which has n positions: block by block, with one block's positions in
@@ -294,22 +223,12 @@ pub fn is_index(words: &[u64], len: usize, over_one: bool, n: usize, index: &[u6
         lanes,
         overflow: index.len() - fixed,
     };
-    let table = select_in_byte_table();
-    let lowest = debruijn64_table();
-    matches(&table, &lowest, words, len, over_one, s, index)
+    matches(words, len, over_one, s, index)
 }
 
 // The same for an index of these sizes, of which the number of overflow positions is what the words have room for, and is not known to be right.
-fn matches(
-    table: &[u8; 2048],
-    lowest: &[u8; 64],
-    words: &[u64],
-    len: usize,
-    over_one: bool,
-    s: Sizes,
-    index: &[u64],
-) -> bool
-    requires { SelectInByte table.now × Debruijn64 lowest.now × Comparable over_one words.now len s (length index.now) }
+fn matches(words: &[u64], len: usize, over_one: bool, s: Sizes, index: &[u64]) -> bool
+    requires { Comparable over_one words.now len s (length index.now) }
     ensures { Decides result (index.now ≡ index_words (positions over_one words.now len)) }
 {
     let n = s.positions;
@@ -320,9 +239,9 @@ fn matches(
     let mut j: usize = 0;
     while j < blocks {
         let size = block_size(n, j);
-        let next = load(&mut a, table, lowest, words, over_one, n, j, at);
+        let next = load(&mut a, words, over_one, n, j, at);
         at = next;
-        let Compared::Same(more) = compare(&a, size, index, s, j, over) else {
+        let Some(more) = compare(&a, size, index, s, j, over) else {
             return false;
         };
         over += more;

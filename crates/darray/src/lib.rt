@@ -4,10 +4,10 @@
 #![tactic(auto)]
 
 ghost use Rattle.std.specs.Prelude.{◌≡◌, true, false};
-ghost use Rattle.errors.specs.Answer.{leaves};
+ghost use Rattle.errors.specs.Answer.{leaves, of_bit, of_optional};
 ghost use Rattle.broadword.specs.Places.{select as select_bit};
 ghost use Rattle.bit_words.specs.Vector.{bit_over};
-ghost use Rattle.bit_vectors.specs.Queries.{of_bit, of_place, of_found, access_of};
+ghost use Rattle.bit_vectors.specs.Queries.{access_of};
 ghost use Rattle.darray.specs.Queries.{select_built_of};
 ghost use Rattle.darray.specs.Select.{Indexed};
 
@@ -15,12 +15,11 @@ pub mod inner;
 mod pending;
 pub mod select;
 
-use bit_vectors::{Bit, Place, bit_vector};
-use broadword::{Found, select_in_byte_table};
-use inner::{Built, Measured};
+use bit_vectors::bit_vector;
+use errors::Refusal;
 
 // The bit at pos.
-pub fn access(words: &[u64], len: usize, pos: usize) -> Bit
+pub fn access(words: &[u64], len: usize, pos: usize) -> Result<Option<bool>, Refusal>
     ensures { of_bit result ≡ access_of words.now len pos }
 {
     bit_vector::access(words, len, pos)
@@ -32,13 +31,12 @@ pub fn select1(
     len: usize,
     index: &[u64],
     positions: usize,
-    table: &[u8; 2048],
     k: usize,
-) -> Found
-    requires { Indexed words.now len true index.now positions table.now }
+) -> Option<usize>
+    requires { Indexed words.now len true index.now positions }
     ensures { result ≡ select_bit (bit_over true words.now) len k }
 {
-    select::select(words, len, true, index, positions, table, k)
+    select::select(words, len, true, index, positions, k)
 }
 
 // The zero that k zeros stand before, by the index over the zeros.
@@ -47,37 +45,25 @@ pub fn select0(
     len: usize,
     index: &[u64],
     positions: usize,
-    table: &[u8; 2048],
     k: usize,
-) -> Found
-    requires { Indexed words.now len false index.now positions table.now }
+) -> Option<usize>
+    requires { Indexed words.now len false index.now positions }
     ensures { result ≡ select_bit (bit_over false words.now) len k }
 {
-    select::select(words, len, false, index, positions, table, k)
-}
-
-fn place_of(found: Found) -> Place
-    ensures { of_place result ≡ of_found found }
-{
-    match found {
-        Found::At(i) => Place::At(i),
-        Found::Nothing => Place::Nothing,
-    }
+    select::select(words, len, false, index, positions, k)
 }
 
 // Builds the index into the lent words and selects through it.
-pub fn select_built(words: &[u64], len: usize, over_one: bool, out: &mut [u64], k: usize) -> Place
-    ensures { leaves (of_place result) out.new ≡ select_built_of words.now len over_one out.old k }
+pub fn select_built(
+    words: &[u64],
+    len: usize,
+    over_one: bool,
+    out: &mut [u64],
+    k: usize,
+) -> Result<Option<usize>, Refusal>
+    ensures { leaves (of_optional result) out.new ≡ select_built_of words.now len over_one out.old k }
 {
-    match inner::build(words, len, over_one, &mut *out) {
-        Built::Refused(r) => Place::Refused(r),
-        Built::Words(n) => {
-            let Measured::Sizes(s) = inner::measure(words, len, over_one) else {
-                return Place::Nothing;
-            };
-            let positions = s.positions;
-            let table = select_in_byte_table();
-            place_of(select::select(words, len, over_one, &out[..n], positions, &table, k))
-        }
-    }
+    let n = inner::build(words, len, over_one, &mut *out)?;
+    let s = inner::measure(words, len, over_one)?;
+    Ok(select::select(words, len, over_one, &out[..n], s.positions, k))
 }

@@ -1,14 +1,14 @@
 // The pending positions of a block: those that its words need are stored, and a flush writes them to the index and empties them.
 ghost use Rattle.std.specs.Prelude.{◌≡◌, true, false, cond, ℕ, ◌+◌, ◌-◌, ◌*◌, ◌/◌, ◌^◌, ◌≤◌, ◌<◌, min, length, get_or, replicate};
 ghost use Rattle.broadword.specs.Bits.{bit};
-ghost use Rattle.broadword.specs.Places.{select, SelectInByte, Debruijn64};
+ghost use Rattle.broadword.specs.Places.{select};
 ghost use Rattle.bit_words.specs.Vector.{bit_over};
 ghost use Rattle.darray_positions.specs.Scan.{Position, Ahead, Inside, last_in_block};
 ghost use Rattle.darray.specs.Pending.{Sampled, Loadable, Loaded, LanesRise, block_wide, block_spill, block_lane, block_lane_word, put, flushed, Flushable, lanes_at, over_at, emptied, Decides, Reads, Matches, Comparing, Compares};
 
 use crate::inner::Sizes;
 use bit_words::{WORD_LEN, word_over};
-use broadword::{Found, lsb_by};
+use broadword::lsb;
 use darray_positions::scan::{
     BLOCK_LEN, Cursor, Hit, SUBBLOCK_LEN, block_size, cursor_at, find_near, is_far, is_wide,
 };
@@ -29,16 +29,8 @@ fn without_lowest(w: u64) -> u64
 }
 
 // Stores the `size` positions from the number k on, the first of which stands at `first`.
-fn fill(
-    a: &mut [u64; 1024],
-    lowest: &[u8; 64],
-    words: &[u64],
-    over_one: bool,
-    first: usize,
-    k: usize,
-    size: usize,
-)
-    requires { (length a.old ≡ 1024) × (size ≤ 1024) × (0 < size) × Position (bit_over over_one words.now) k first × Inside (bit_over over_one words.now) (length words.now) (k + (size - 1)) × Debruijn64 lowest.now }
+fn fill(a: &mut [u64; 1024], words: &[u64], over_one: bool, first: usize, k: usize, size: usize)
+    requires { (length a.old ≡ 1024) × (size ≤ 1024) × (0 < size) × Position (bit_over over_one words.now) k first × Inside (bit_over over_one words.now) (length words.now) (k + (size - 1)) }
     ensures { Sampled (bit_over over_one words.now) k size true a.new }
 {
     let shift = first % WORD_LEN;
@@ -46,13 +38,13 @@ fn fill(
     let mut left = (word_over(words, word, over_one) >> shift) << shift;
     let mut c: usize = 0;
     while c < size {
-        match lsb_by(lowest, left) {
-            Found::At(bit) => {
+        match lsb(left) {
+            Some(bit) => {
                 a[c] = (word * WORD_LEN + bit) as u64;
                 left = without_lowest(left);
                 c += 1;
             }
-            Found::Nothing => {
+            None => {
                 word += 1;
                 left = word_over(words, word, over_one);
             }
@@ -63,27 +55,26 @@ fn fill(
 // Stores every 32nd of the `size` positions from the number k on, and the last; a cursor at the word of the last comes back.
 fn sample(
     a: &mut [u64; 1024],
-    table: &[u8; 2048],
     words: &[u64],
     over_one: bool,
     from: Cursor,
     k: usize,
     size: usize,
 ) -> Cursor
-    requires { (length a.old ≡ 1024) × (0 < size) × (size ≤ 1024) × SelectInByte table.now × Ahead (bit_over over_one words.now) from k × Inside (bit_over over_one words.now) (length words.now) (k + (size - 1)) }
+    requires { (length a.old ≡ 1024) × (0 < size) × (size ≤ 1024) × Ahead (bit_over over_one words.now) from k × Inside (bit_over over_one words.now) (length words.now) (k + (size - 1)) }
     ensures { Sampled (bit_over over_one words.now) k size false a.new × Ahead (bit_over over_one words.now) result (k + (size - 1)) }
 {
     let mut at = from;
     let mut i: usize = 0;
     while i < size {
-        let h = find_near(table, words, over_one, at, k + i);
+        let h = find_near(words, over_one, at, k + i);
         a[i] = h.at;
         let next = h.cursor;
         at = next;
         i += SUBBLOCK_LEN;
     }
     let last = size - 1;
-    let h = find_near(table, words, over_one, at, k + last);
+    let h = find_near(words, over_one, at, k + last);
     a[last] = h.at;
     let next = h.cursor;
     next
@@ -93,21 +84,19 @@ fn sample(
 // position is h; a cursor at the word of the last comes back.
 fn load_near(
     a: &mut [u64; 1024],
-    table: &[u8; 2048],
-    lowest: &[u8; 64],
     words: &[u64],
     over_one: bool,
     h: Hit,
     k: usize,
     size: usize,
 ) -> Cursor
-    requires { Loadable (bit_over over_one words.now) (length words.now) k size h table.now lowest.now a.old }
+    requires { Loadable (bit_over over_one words.now) (length words.now) k size h a.old }
     ensures { Loaded (bit_over over_one words.now) k size a.new result }
 {
     let from = h.cursor;
-    let next = sample(&mut *a, table, words, over_one, from, k, size);
+    let next = sample(&mut *a, words, over_one, from, k, size);
     if is_wide(a[0], a[size - 1]) {
-        fill(a, lowest, words, over_one, h.at as usize, k, size);
+        fill(a, words, over_one, h.at as usize, k, size);
     }
     next
 }
@@ -115,51 +104,38 @@ fn load_near(
 // The same wherever its end is: where that is far off, the block overflows, or nearly, and all its positions are stored one after the other.
 fn load_from(
     a: &mut [u64; 1024],
-    table: &[u8; 2048],
-    lowest: &[u8; 64],
     words: &[u64],
     over_one: bool,
     h: Hit,
     k: usize,
     size: usize,
 ) -> Cursor
-    requires { Loadable (bit_over over_one words.now) (length words.now) k size h table.now lowest.now a.old }
+    requires { Loadable (bit_over over_one words.now) (length words.now) k size h a.old }
     ensures { Loaded (bit_over over_one words.now) k size a.new result }
 {
     let last = size - 1;
     if is_far(words, over_one, h.cursor, k + last) {
-        fill(&mut *a, lowest, words, over_one, h.at as usize, k, size);
+        fill(&mut *a, words, over_one, h.at as usize, k, size);
         return cursor_at(words, over_one, k + last, a[last] as usize);
     }
-    load_near(a, table, lowest, words, over_one, h, k, size)
+    load_near(a, words, over_one, h, k, size)
 }
 
 // The same for the block with the number `block` of n positions.
 pub fn load(
     a: &mut [u64; 1024],
-    table: &[u8; 2048],
-    lowest: &[u8; 64],
     words: &[u64],
     over_one: bool,
     n: usize,
     block: usize,
     from: Cursor,
 ) -> Cursor
-    requires { (length a.old ≡ 1024) × SelectInByte table.now × Debruijn64 lowest.now × Ahead (bit_over over_one words.now) from (1024 * block) × Inside (bit_over over_one words.now) (length words.now) (last_in_block n block) × (1024 * block < n) }
+    requires { (length a.old ≡ 1024) × Ahead (bit_over over_one words.now) from (1024 * block) × Inside (bit_over over_one words.now) (length words.now) (last_in_block n block) × (1024 * block < n) }
     ensures { Loaded (bit_over over_one words.now) (1024 * block) (min 1024 (n - 1024 * block)) a.new result }
 {
     let k = BLOCK_LEN * block;
-    let h = find_near(table, words, over_one, from, k);
-    load_from(
-        a,
-        table,
-        lowest,
-        words,
-        over_one,
-        h,
-        k,
-        block_size(n, block),
-    )
+    let h = find_near(words, over_one, from, k);
+    load_from(a, words, over_one, h, k, block_size(n, block))
 }
 
 // None is pending.
@@ -326,14 +302,6 @@ fn block_matches(
     positions_match(a, spill(a, n), index, over_start + over)
 }
 
-// Whether a block's words are those of the index.
-#[derive(Clone, Copy)]
-pub enum Compared {
-    // They are, and so many of its positions go to the overflow.
-    Same(usize),
-    Other,
-}
-
 // Compares the words of a block, with `over` overflow positions before it, with those of the index.
 pub fn compare(
     a: &[u64; 1024],
@@ -342,16 +310,16 @@ pub fn compare(
     s: Sizes,
     block: usize,
     over: usize,
-) -> Compared
+) -> Option<usize>
     requires { Comparing a.now n s block over (length index.now) }
     ensures { Compares a.now n s block over index.now result }
 {
     let more = spill(a, n);
     if s.overflow - over < more {
-        return Compared::Other;
+        return None;
     }
     if block_matches(a, n, index, 0, s, block, over) {
-        return Compared::Same(more);
+        return Some(more);
     }
-    Compared::Other
+    None
 }

@@ -1,14 +1,12 @@
-// Select through the index, in constant time. These functions are inner: each demands the index of the bits that it is lent, how many positions
-// the index has, and the table of `broadword::select_in_byte_table`; `select_within` also that there is such a position.
-ghost use Rattle.std.specs.Prelude.{◌≡◌, ◌+◌, ◌*◌, ◌/◌, ◌%◌, ◌^◌, ◌<◌, length, get_or};
+// Select through the index, in constant time. These functions are inner: each demands the index of the bits that it is lent and how many positions
+// the index has; `select_within` also that there is such a position.
+ghost use Rattle.std.specs.Prelude.{◌≡◌, ◌+◌, ◌*◌, ◌/◌, ◌%◌, ◌^◌, ◌<◌, length, get_or, Some};
 ghost use Rattle.std.specs.Int.Bits.{bit_and};
 ghost use Rattle.broadword.specs.Places.{select as select_bit};
-ghost use Rattle.broadword.specs.declared.Found.TheVariants.{At};
 ghost use Rattle.bit_words.specs.Vector.{bit_over};
 ghost use Rattle.darray.specs.Select.{Indexed, signed_of, entry_of};
 
 use bit_words::{find_within, words_for};
-use broadword::Found;
 use darray_positions::scan::{BLOCK_LEN, SUBBLOCK_LEN};
 
 // A block's entry: its first position, or where its overflow positions begin.
@@ -58,11 +56,10 @@ pub fn select_within(
     over_one: bool,
     index: &[u64],
     positions: usize,
-    table: &[u8; 2048],
     k: usize,
 ) -> usize
-    requires { Indexed words.now len over_one index.now positions table.now × (k < positions) }
-    ensures { select_bit (bit_over over_one words.now) len k ≡ At result }
+    requires { Indexed words.now len over_one index.now positions × (k < positions) }
+    ensures { select_bit (bit_over over_one words.now) len k ≡ Some result }
 {
     let entries = (positions + 1023) / BLOCK_LEN;
     let block = k / BLOCK_LEN;
@@ -78,7 +75,7 @@ pub fn select_within(
             if rest == 0 {
                 return start;
             }
-            find_within(words, words_for(len), over_one, table, start, rest)
+            find_within(words, words_for(len), over_one, start, rest)
         }
     }
 }
@@ -90,14 +87,13 @@ pub fn select(
     over_one: bool,
     index: &[u64],
     positions: usize,
-    table: &[u8; 2048],
     k: usize,
-) -> Found
-    requires { Indexed words.now len over_one index.now positions table.now }
+) -> Option<usize>
+    requires { Indexed words.now len over_one index.now positions }
     ensures { result ≡ select_bit (bit_over over_one words.now) len k }
 {
     if positions <= k {
-        return Found::Nothing;
+        return None;
     }
-    Found::At(select_within(words, len, over_one, index, positions, table, k))
+    Some(select_within(words, len, over_one, index, positions, k))
 }

@@ -1,4 +1,5 @@
 -- Counting and seeking the positions of a bit vector word by word. Assumes nothing.
+use Rattle.std.specs.Prelude.{Some, None}
 use mathlib.Core.Path.{◌≡◌, refl, sym, ap, ap₂, ◌∙◌, subst}
 use mathlib.Core.List.{List}
 use mathlib.Core.Bool.{Bool}
@@ -9,7 +10,6 @@ use lib.Pow.{pow_pos, pow_mono}
 use lib.ListN.{length, get_or}
 use Rattle.broadword.specs.Bits.{bit, count, ones}
 use Rattle.broadword.specs.Places.{select}
-use Rattle.broadword.specs.declared.Found.TheVariants.{At, Nothing}
 use Rattle.broadword.proofs.Count.{bit_le, bit-above, bit-mod, count_add, count_le, count_mono, count_same, count_zero}
 use Rattle.broadword.proofs.Find.{selected, select_at, select_some}
 use Rattle.bit_words.specs.Vector.{bit_over, word_over}
@@ -48,7 +48,7 @@ word_below b ws i k h l = lt_of_mul-lt-mul_right 64 (lt_of_lt_of_le (below (bit_
 
 -- the position with the number k, found in its word
 module _ (b : Bool) (ws : List ℕ) (fit : Fit ws) (c : Cursor) (k : ℕ) (a : Ahead (bit_over b ws) c k) where
-  pub hit_at : (s : ℕ) → At s ≡ select (bit (word_over b (get_or ws c.word 0))) 64 (k - c.before) → Position (bit_over b ws) k (c.word * 64 + s)
+  pub hit_at : (s : ℕ) → Some s ≡ select (bit (word_over b (get_or ws c.word 0))) 64 (k - c.before) → Position (bit_over b ws) k (c.word * 64 + s)
   hit_at s e =
       let f : ℕ → ℕ = bit_over b ws in
       let w : ℕ = word_over b (get_or ws c.word 0) in
@@ -59,7 +59,7 @@ module _ (b : Bool) (ws : List ℕ) (fit : Fit ws) (c : Cursor) (k : ℕ) (a : A
         before = count_word f (λ i. word_over b (get_or ws i 0)) (bit_over-word b ws fit) c.word s (omega arith) ∙ omega (arith, r.before, a.counted, a.to_come);
       }
 
-  pub hit_some : k < c.before + ones (word_over b (get_or ws c.word 0)) 64 → Nothing ≡ select (bit (word_over b (get_or ws c.word 0))) 64 (k - c.before) → ⊥
+  pub hit_some : k < c.before + ones (word_over b (get_or ws c.word 0)) 64 → None ≡ select (bit (word_over b (get_or ws c.word 0))) 64 (k - c.before) → ⊥
   hit_some h e =
       let w : ℕ = word_over b (get_or ws c.word 0) in
       let s = select_some (bit w) 64 (k - c.before) (bit_le w) (omega (arith, a.to_come)) in

@@ -1,4 +1,5 @@
 -- Laws of `places`: the position with the number k is the place that `select` finds, and positions rise. Assumes nothing.
+use Rattle.std.specs.Prelude.{Some}
 use mathlib.Core.Path.{◌≡◌, refl, sym, ap, ◌∙◌, subst}
 use mathlib.Core.List.{[], ◌∷◌}
 use mathlib.Core.Logic.{◌⊎◌, ⊎_elim}
@@ -11,7 +12,6 @@ use lib.ListN.{length, get_or, length-append, get_or-append}
 use lib.Seq.{get_or_at}
 use Rattle.broadword.specs.Bits.{count}
 use Rattle.broadword.specs.Places.{select}
-use Rattle.broadword.specs.declared.Found.TheVariants.{At}
 use Rattle.broadword.proofs.Count.{count_mono}
 use Rattle.broadword.proofs.Find.{Selected, select_at, select_some}
 use Rattle.darray_positions.specs.Positions.{places}
@@ -57,7 +57,7 @@ module _ (f : ℕ → ℕ) (bits : (i : ℕ) → f i ≤ 1) where
       subst (λ (i : ℕ). Selected f n k i) (sym (place_is n k s.0 s.1.one s.1.before h)) s.1
 
   -- it is the place that `select` finds
-  pub place_select : (n k : ℕ) → k < count f n → select f n k ≡ At (get_or (places f n) k 0)
+  pub place_select : (n k : ℕ) → k < count f n → select f n k ≡ Some (get_or (places f n) k 0)
   place_select n k h = let s = place_has n k h in select_at f n k (get_or (places f n) k 0) s.within s.one s.before
 
   -- positions rise with their numbers

@@ -2,12 +2,11 @@
 // words between, and those between it and the last one found are not visited.
 ghost use Rattle.std.specs.Prelude.{◌≡◌, true, cond, ◌+◌, ◌-◌, ◌*◌, ◌/◌, ◌^◌, ◌≤◌, ◌<◌, min, leb, length, get_or};
 ghost use Rattle.broadword.specs.Bits.{count, ones};
-ghost use Rattle.broadword.specs.Places.{SelectInByte};
 ghost use Rattle.bit_words.specs.Vector.{words_for, bit_over, word_over};
 ghost use Rattle.darray_positions.specs.Scan.{Position, last_in_block, Ahead, Inside, Ranging, Reaches, Hits, Spans, FullBlocks};
 
 use bit_words::{WORD_LEN, low_bits, word_over};
-use broadword::{Found, popcount, select_in_word_by};
+use broadword::{popcount, select_in_word};
 
 // Positions in a block.
 pub const BLOCK_LEN: usize = 1024;
@@ -153,37 +152,37 @@ fn seek(words: &[u64], over_one: bool, from: Cursor, k: usize, end: usize) -> Cu
 }
 
 // The position with the number k, which stands in the cursor's word.
-fn place_at(table: &[u8; 2048], words: &[u64], over_one: bool, c: Cursor, k: usize) -> u64
-    requires { SelectInByte table.now × Ahead (bit_over over_one words.now) c k × (c.word < length words.now) × (c.word * 64 ≤ 2 ^ 63) × (k < c.before + ones (word_over over_one (get_or words.now c.word 0)) 64) }
+fn place_at(words: &[u64], over_one: bool, c: Cursor, k: usize) -> u64
+    requires { Ahead (bit_over over_one words.now) c k × (c.word < length words.now) × (c.word * 64 ≤ 2 ^ 63) × (k < c.before + ones (word_over over_one (get_or words.now c.word 0)) 64) }
     ensures { Position (bit_over over_one words.now) k result }
 {
     let w = word_over(words, c.word, over_one);
-    match select_in_word_by(table, w, k - c.before) {
-        Found::At(s) => (c.word * WORD_LEN + s) as u64,
-        Found::Nothing => 0,
+    match select_in_word(w, k - c.before) {
+        Some(s) => (c.word * WORD_LEN + s) as u64,
+        None => 0,
     }
 }
 
 // The position with the number k, where it is near.
-pub fn find_near(table: &[u8; 2048], words: &[u64], over_one: bool, from: Cursor, k: usize) -> Hit
-    requires { SelectInByte table.now × Ahead (bit_over over_one words.now) from k × Inside (bit_over over_one words.now) (length words.now) k }
+pub fn find_near(words: &[u64], over_one: bool, from: Cursor, k: usize) -> Hit
+    requires { Ahead (bit_over over_one words.now) from k × Inside (bit_over over_one words.now) (length words.now) k }
     ensures { Hits (bit_over over_one words.now) k result }
 {
     let cursor = advance(words, over_one, from, k, words.len());
     Hit {
-        at: place_at(table, words, over_one, cursor, k),
+        at: place_at(words, over_one, cursor, k),
         cursor,
     }
 }
 
 // The position with the number k.
-fn find(table: &[u8; 2048], words: &[u64], over_one: bool, from: Cursor, k: usize) -> Hit
-    requires { SelectInByte table.now × Ahead (bit_over over_one words.now) from k × Inside (bit_over over_one words.now) (length words.now) k }
+fn find(words: &[u64], over_one: bool, from: Cursor, k: usize) -> Hit
+    requires { Ahead (bit_over over_one words.now) from k × Inside (bit_over over_one words.now) (length words.now) k }
     ensures { Hits (bit_over over_one words.now) k result }
 {
     let cursor = seek(words, over_one, from, k, words.len());
     Hit {
-        at: place_at(table, words, over_one, cursor, k),
+        at: place_at(words, over_one, cursor, k),
         cursor,
     }
 }
@@ -227,26 +226,13 @@ pub fn spilled(first: u64, last: u64, size: usize) -> usize
 }
 
 // The ends of a block of n positions.
-pub fn ends(
-    table: &[u8; 2048],
-    words: &[u64],
-    over_one: bool,
-    n: usize,
-    block: usize,
-    from: Cursor,
-) -> Span
-    requires { SelectInByte table.now × Ahead (bit_over over_one words.now) from (1024 * block) × Inside (bit_over over_one words.now) (length words.now) (last_in_block n block) × (1024 * block < n) }
+pub fn ends(words: &[u64], over_one: bool, n: usize, block: usize, from: Cursor) -> Span
+    requires { Ahead (bit_over over_one words.now) from (1024 * block) × Inside (bit_over over_one words.now) (length words.now) (last_in_block n block) × (1024 * block < n) }
     ensures { Spans (bit_over over_one words.now) n block result }
 {
     let k = BLOCK_LEN * block;
-    let a = find(table, words, over_one, from, k);
-    let b = find(
-        table,
-        words,
-        over_one,
-        a.cursor,
-        k + (block_size(n, block) - 1),
-    );
+    let a = find(words, over_one, from, k);
+    let b = find(words, over_one, a.cursor, k + (block_size(n, block) - 1));
     let next = b.cursor;
     Span {
         first: a.at,
@@ -256,8 +242,8 @@ pub fn ends(
 }
 
 // The full blocks that end in a whole word: their positions are counted while the ends of the blocks are searched.
-pub fn full_blocks(table: &[u8; 2048], words: &[u64], len: usize, over_one: bool) -> Full
-    requires { SelectInByte table.now × (words_for len ≤ length words.now) × (len < 2 ^ 63) }
+pub fn full_blocks(words: &[u64], len: usize, over_one: bool) -> Full
+    requires { (words_for len ≤ length words.now) × (len < 2 ^ 63) }
     ensures { FullBlocks over_one words.now len result }
 {
     let end = len / WORD_LEN;
@@ -277,8 +263,8 @@ pub fn full_blocks(table: &[u8; 2048], words: &[u64], len: usize, over_one: bool
             };
         }
         overflow += spilled(
-            place_at(table, words, over_one, first, k),
-            place_at(table, words, over_one, last, k + (BLOCK_LEN - 1)),
+            place_at(words, over_one, first, k),
+            place_at(words, over_one, last, k + (BLOCK_LEN - 1)),
             BLOCK_LEN,
         );
         from = last;

@@ -1,4 +1,5 @@
 -- The answers of opening and of the questions, case by case. Assumes nothing.
+use Rattle.std.specs.Prelude.{Ok, Err, Some, None, Result, Option}
 use mathlib.Core.Path.{◌≡◌, refl, sym, ap, ◌∙◌, subst}
 use mathlib.Core.List.{List}
 use mathlib.Core.Bool.{Bool, true, false, cond}
@@ -7,14 +8,10 @@ use native.Mathlib.Omega.{arith}
 use Rattle.errors.specs.Answer.{Answer, value, refused}
 use Rattle.errors.specs.Refusal.{number_of}
 use Rattle.errors.specs.declared.Refusal.{Refusal}
-use Rattle.elias_fano.specs.declared.image.Header.{Header}
-use Rattle.elias_fano.specs.declared.image.Header.TheVariants as head
-use Rattle.elias_fano.specs.declared.image.Opened.{Opened}
-use Rattle.elias_fano.specs.declared.image.Opened.TheVariants as opened
 use Rattle.elias_fano.specs.declared.image.Parts.{Parts}
 use Rattle.elias_fano.specs.Accept.{accepted, parts_of, parts, unopened, of_opened, accepted_if, open_if, open_of}
 use Rattle.elias_fano.specs.Ask.{Question, asked, query}
-use Rattle.elias_fano.specs.Opening.{Headed, Heads}
+use Rattle.elias_fano.specs.Opening.{Headed, Heads, Open}
 
 -- ---- an answer has one case
 
@@ -37,10 +34,10 @@ refused_by_lem false k q e = (refl, cc)
 module _ (i : List ℕ) where
   -- ---- a header
 
-  pub heads_parts : (r : Header) (p : Parts) → Heads i r → r ≡ head.Parts p → (p ≡ parts_of i) × Headed i
+  pub heads_parts : (r : Option Parts) (p : Parts) → Heads i r → r ≡ Some p → (p ≡ parts_of i) × Headed i
   heads_parts r p h e = subst (Heads i) e h
 
-  pub heads_wrong : (r : Header) → Heads i r → r ≡ head.Wrong → accepted i ≡ true → ⊥
+  pub heads_wrong : (r : Option Parts) → Heads i r → r ≡ None → accepted i ≡ true → ⊥
   heads_wrong r h e = subst (Heads i) e h
 
   -- ---- opening
@@ -57,18 +54,18 @@ module _ (i : List ℕ) where
 
   -- ---- a question
 
-  pub is_open : (r : Opened) (p : Parts) → of_opened r ≡ open_of i → r ≡ opened.Image p → (accepted i ≡ true) × (p ≡ parts_of i)
+  pub opened : (p : Parts) → parts p ≡ open_of i → Open i p
   unfolding open_of
-  is_open r p er e = image_by (accepted i) p (parts_of i) (sym (ap of_opened e) ∙ er)
+  opened p e = let h = image_by (accepted i) p (parts_of i) e in record { ok = h.0; parts = h.1 }
 
-  pub not_open : (r : Opened) (x : Refusal) → of_opened r ≡ open_of i → r ≡ opened.Refused x → (accepted i ≡ false) × (number_of x ≡ 7)
+  pub not_open : (x : ℕ) → unopened x ≡ open_of i → (accepted i ≡ false) × (x ≡ 7)
   unfolding open_of
-  not_open r x er e = refused_by_lem (accepted i) (number_of x) (parts_of i) (sym (ap of_opened e) ∙ er)
+  not_open x e = refused_by_lem (accepted i) x (parts_of i) e
 
-  pub query_refused : (r : Opened) (x : Refusal) (q : Question) → of_opened r ≡ open_of i → r ≡ opened.Refused x → refused (number_of x) ≡ query i q
+  pub query_refused : (x : ℕ) (q : Question) → unopened x ≡ open_of i → refused x ≡ query i q
   unfolding query
-  query_refused r x q er e =
-      let d = not_open r x er e in
+  query_refused x q e =
+      let d = not_open x e in
       ap refused d.1 ∙ sym (ap (λ (b : Bool). cond b (asked i q) (refused 7)) d.0)
 
   pub query_opened : (a : Answer) (q : Question) → accepted i ≡ true → a ≡ asked i q → a ≡ query i q

@@ -1,4 +1,5 @@
 -- What is measured of an image's indexes, and what is written where there is no second one. Assumes nothing.
+use Rattle.std.specs.Prelude.{Ok, Err, Result}
 use mathlib.Core.Path.{◌≡◌, refl, sym, ap, ◌∙◌}
 use mathlib.Core.List.{List, [], ◌∷◌, ◌++◌}
 use mathlib.Core.Bool.{Bool, true, false, cond}
@@ -10,19 +11,17 @@ use Rattle.darray_positions.specs.Index.{blocks, lanes, lane_words, before, over
 use Rattle.darray_positions.specs.Positions.{positions}
 use Rattle.darray.specs.Queries.{of_measured, measure_of}
 use Rattle.darray.specs.declared.inner.Sizes.{Sizes}
-use Rattle.darray.specs.declared.inner.Measured.{Measured}
-use Rattle.darray.specs.declared.inner.Measured.TheVariants as measured
 use Rattle.darray.proofs.Built as built
 use Rattle.darray.proofs.Within.{measured_sized}
 use Rattle.elias_fano.specs.Finishing.{Measurable, zeros_words}
 
 -- ---- what is measured
 
-module _ (b : Bool) (ws : List ℕ) (len : ℕ) (r : Measured) (e : of_measured r ≡ measure_of ws len b) where
-  pub overflow_is : (s : Sizes) → r ≡ measured.Sizes s → s.overflow ≡ before (positions b ws len) (blocks (positions b ws len))
+module _ (b : Bool) (ws : List ℕ) (len : ℕ) (r : Result Sizes Refusal) (e : of_measured r ≡ measure_of ws len b) where
+  pub overflow_is : (s : Sizes) → r ≡ Ok s → s.overflow ≡ before (positions b ws len) (blocks (positions b ws len))
   overflow_is s h = (measured_sized b ws len s (ap of_measured (sym h) ∙ e)).overflow
 
-  pub not_refused : (x : Refusal) → r ≡ measured.Refused x → Measurable ws len → ⊥
+  pub not_refused : (x : Refusal) → r ≡ Err x → Measurable ws len → ⊥
   not_refused x h m = built.measures ws len b [] _ m.0 (omega (arith, m.1)) (ap of_measured (sym h) ∙ e)
 
 -- what is there with the choice only

@@ -1,4 +1,5 @@
 -- The value with a number, read from an opened image through its index. Assumes nothing.
+use Rattle.std.specs.Prelude.{Some, None, Option}
 use mathlib.Core.Path.{◌≡◌, refl, sym, ap, ap₂, ◌∙◌, subst}
 use mathlib.Core.List.{List, [], append-nil}
 use mathlib.Core.Bool.{true}
@@ -11,9 +12,7 @@ use borrow.Author.Tests.{le-ltb, lt-ltb}
 use lib.ListN.{length, get_or, take, drop}
 use lib.Pow.{split}
 use Rattle.errors.specs.Answer.{value, none}
-use Rattle.broadword.specs.Places.{select, SelectInByte}
-use Rattle.broadword.specs.declared.Found.{Found}
-use Rattle.broadword.specs.declared.Found.TheVariants.{At, Nothing}
+use Rattle.broadword.specs.Places.{select}
 use Rattle.bit_words.specs.Vector.{bit_at, bit_over, words_for, number_words}
 use Rattle.bit_words.proofs.Overwrite.{length-number_words}
 use Rattle.darray_positions.specs.Index.{index_words}
@@ -88,8 +87,8 @@ module _ (i : List ℕ) (ok : accepted i ≡ true) (p : Parts) (ep : p ≡ parts
 
   -- ---- what the calls demand
 
-  pub indexed : (t : List ℕ) → SelectInByte t → Indexed (take (p.low_at - 6) (drop 6 i)) p.high_len true (take (p.zeros_at - p.ones_at) (drop p.ones_at i)) p.num_pushed t
-  indexed t rule =
+  pub indexed : Indexed (take (p.low_at - 6) (drop 6 i)) p.high_len true (take (p.zeros_at - p.ones_at) (drop p.ones_at i)) p.num_pushed
+  indexed =
       let f = found i ok in
       let v = standing.indexable i p ep f.head (images.is_fit i ok).small f.bits in
       record {
@@ -97,7 +96,6 @@ module _ (i : List ℕ) (ok : accepted i ≡ true) (p : Parts) (ep : p ≡ parts
         short = v.1;
         is = standing.ones_part i p ep f.head ∙ f.indexed.ones ∙ (λ x. index_words (positions true (sym (standing.high_part_lem i p ep f.head) x) (sym high_len_is x)));
         number = pushed_is ∙ sym (lengths.ones_many u n T (images.is_fit i ok).rises (images.is_fit i ok).few) ∙ (λ x. length (positions true (sym high_is x) (sym high_len_is x)));
-        rule = rule;
       }
 
   pub low_small : p.low_len < 64
@@ -132,18 +130,18 @@ module _ (i : List ℕ) (ok : accepted i ≡ true) (p : Parts) (ep : p ≡ parts
     unfolding bit_over
     over_one = refl
 
-    pub place_is : select (bit_over true (take (p.low_at - 6) (drop 6 i))) p.high_len k ≡ At (place_of l T k)
+    pub place_is : select (bit_over true (take (p.low_at - 6) (drop 6 i))) p.high_len k ≡ Some (place_of l T k)
     place_is =
         ap (λ (f : ℕ → ℕ). select f p.high_len k) over_one ∙ ap₂ (λ (w : List ℕ) (j : ℕ). select (bit_at w) j k) high_is high_len_is
         ∙ select_high u n T (images.is_fit i ok).rises (images.is_fit i ok).few k in_list
 
-    at_inj : (a b : ℕ) → At a ≡ At b → a ≡ b
+    at_inj : (a b : ℕ) → Some a ≡ Some b → a ≡ b
     at_inj a b e = cc
 
-    at_nothing : (a : ℕ) → Nothing ≡ At a → ⊥
+    at_nothing : (a : ℕ) → None ≡ Some a → ⊥
     at_nothing a e = let z : ◌≡◌ {A = ℕ} 0 1 = cc in omega arith
 
-    pub some_place : (r : Found) → r ≡ select (bit_over true (take (p.low_at - 6) (drop 6 i))) p.high_len k → r ≡ Nothing → ⊥
+    pub some_place : (r : Option ℕ) → r ≡ select (bit_over true (take (p.low_at - 6) (drop 6 i))) p.high_len k → r ≡ None → ⊥
     some_place r er e = at_nothing (place_of l T k) (sym e ∙ er ∙ place_is)
 
     pub is_value : (v : ℕ) → v ≡ t → value v ≡ asked i (Select k)
@@ -155,7 +153,7 @@ module _ (i : List ℕ) (ok : accepted i ≡ true) (p : Parts) (ep : p ≡ parts
         el ∙ ap₂ (λ (y : ℕ) (w : List ℕ). low_bits y w k) low_len_is (low_is ∙ sym (append-nil (number_words lw (low_number l T))))
         ∙ low_words_lem l T lw [] k (le_refl lw) in_list
 
-    module _ (x : ℕ) (e : select (bit_over true (take (p.low_at - 6) (drop 6 i))) p.high_len k ≡ At x) where
+    module _ (x : ℕ) (e : select (bit_over true (take (p.low_at - 6) (drop 6 i))) p.high_len k ≡ Some x) where
       here : x ≡ place_of l T k
       here = at_inj x (place_of l T k) (sym e ∙ place_is)
 

@@ -1,4 +1,5 @@
 -- Where the parts of an image with a right header stand: each ends where the next begins, inside the image. Assumes nothing.
+use Rattle.std.specs.Prelude.{Some, None, Option, is_some}
 use mathlib.Core.Path.{◌≡◌, refl, sym, ap, ap₂, ◌∙◌, subst}
 use mathlib.Core.List.{List, []}
 use mathlib.Core.Bool.{Bool, true, false, cond}
@@ -15,8 +16,6 @@ use Rattle.bit_words.proofs.Valid.{valid}
 use Rattle.elias_fano_words.specs.Checks.{Checkable}
 use Rattle.elias_fano_words.specs.Sizes.{low_len}
 use Rattle.elias_fano_words.specs.Times.{holds, holds_if}
-use Rattle.elias_fano_words.specs.declared.check.Checked.{Checked}
-use Rattle.elias_fano_words.specs.declared.check.Checked.TheVariants as checked
 use Rattle.elias_fano.specs.declared.image.Parts.{Parts}
 use Rattle.elias_fano.specs.Accept.{universe, declared, pushed, ranked, parts_by, parts_of}
 use Rattle.elias_fano.specs.Opening.{high_of, ones_in, zeros_in, high_in, bits_in, Headed}
@@ -24,13 +23,9 @@ use Rattle.elias_fano.proofs.Accepting.{valid_part, ones_in_lem, zeros_in_lem}
 use Rattle.elias_fano.proofs.Limits as limits
 
 -- what a check says
-pub checked_yes : (b : Bool) (x y : ℕ) → checked.Last x ≡ cond b (checked.Last y) checked.Wrong → true ≡ b
-checked_yes true x y e = refl
-checked_yes false x y e = let z : ◌≡◌ {A = ℕ} 0 1 = cc in absurd (omega arith)
-
-pub checked_no : (b : Bool) (y : ℕ) → checked.Wrong ≡ cond b (checked.Last y) checked.Wrong → false ≡ b
-checked_no true y e = let z : ◌≡◌ {A = ℕ} 0 1 = cc in absurd (omega arith)
-checked_no false y e = refl
+some_if : (b : Bool) (t : ℕ) → is_some (cond b (Some t) None) ≡ b
+some_if true t = refl
+some_if false t = refl
 
 module _ (i : List ℕ) (p : Parts) (ep : p ≡ parts_of i) (h : Headed i) where
   abbrev hw : ℕ
@@ -112,12 +107,9 @@ module _ (i : List ℕ) (p : Parts) (ep : p ≡ parts_of i) (h : Headed i) where
     unfolding parts_by
     held_is = ap (λ (q : Parts). holds_if q.universe q.num_vals strict q.num_pushed (take (p.ones_at - 6) (drop 6 i))) ep ∙ ap (holds_if (universe i) (declared i) strict (pushed i)) bits_part
 
-    module _ (r : Checked) (t : ℕ) (er : r ≡ cond (holds_if p.universe p.num_vals strict p.num_pushed (take (p.ones_at - 6) (drop 6 i))) (checked.Last t) checked.Wrong) where
-      pub held : (x : ℕ) → r ≡ checked.Last x → true ≡ holds_if (universe i) (declared i) strict (pushed i) (bits_in i)
-      held x e = checked_yes _ x t (sym e ∙ er) ∙ held_is
-
-      pub not_held : r ≡ checked.Wrong → false ≡ holds_if (universe i) (declared i) strict (pushed i) (bits_in i)
-      not_held e = checked_no _ t (sym e ∙ er) ∙ held_is
+    module _ (r : Option ℕ) (t : ℕ) (er : r ≡ cond (holds_if p.universe p.num_vals strict p.num_pushed (take (p.ones_at - 6) (drop 6 i))) (Some t) None) where
+      pub held : is_some r ≡ holds_if (universe i) (declared i) strict (pushed i) (bits_in i)
+      held = ap is_some er ∙ some_if _ t ∙ held_is
 
 -- what is demanded of the high words to compare an index with theirs, or to select through it
 module _ (i : List ℕ) (p : Parts) (ep : p ≡ parts_of i) (h : Headed i) (hu : universe i < 2 ^ 64) (b : holds (universe i) (declared i) (pushed i) (bits_in i) ≡ true) where

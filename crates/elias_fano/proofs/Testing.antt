@@ -1,4 +1,6 @@
 -- What the tests of a builder, of its words and of a time find. Assumes nothing.
+use Rattle.std.specs.Option.{option_eq}
+use Rattle.std.specs.Prelude.{Ok, Err, Some, None, Result, Option}
 use mathlib.Core.Path.{◌≡◌, refl, sym, ap, ◌∙◌, subst}
 use mathlib.Core.List.{List}
 use mathlib.Core.Bool.{Bool, true, false, ◌&&◌, cond}
@@ -15,12 +17,8 @@ use Rattle.errors.specs.declared.Refusal.{Refusal}
 use Rattle.elias_fano_words.specs.Checks.{Checkable}
 use Rattle.elias_fano_words.specs.Sizes.{low_len, high_len, start_len}
 use Rattle.elias_fano_words.specs.Times.{last_of, times_in, holds}
-use Rattle.elias_fano_words.specs.declared.check.Checked.{Checked}
-use Rattle.elias_fano_words.specs.declared.check.Checked.TheVariants as checked
 use Rattle.elias_fano_words.specs.declared.sizes.Sizes.{Sizes}
 use Rattle.elias_fano.specs.declared.builder.Builder.{Builder}
-use Rattle.elias_fano.specs.declared.builder.Tested.{Tested}
-use Rattle.elias_fano.specs.declared.builder.Tested.TheVariants as tested
 use Rattle.elias_fano.specs.Finishing.{Holding, Finishable}
 use Rattle.elias_fano.specs.Steps.{new_test, builder_test, time_test, push_test, held_words, held_times, intact, image_of, image_test, build_test}
 use Rattle.elias_fano.specs.Testing.{Startable, TestsNew, Roomy, TestsBuilder, Fileable, TestsPush, TestsBuild}
@@ -28,32 +26,32 @@ use Rattle.elias_fano.proofs.Cases as cases
 
 -- ---- what a match tells of a test
 
-module _ (u n k : ℕ) (r : Tested) (h : TestsNew u n k r) where
-  pub passed_new : (s : Sizes) → r ≡ tested.Passed s → Startable u n k s
+module _ (u n k : ℕ) (r : Result Sizes Refusal) (h : TestsNew u n k r) where
+  pub passed_new : (s : Sizes) → r ≡ Ok s → Startable u n k s
   passed_new s e = subst (TestsNew u n k) e h
 
-  pub refused_new : (x : Refusal) → r ≡ tested.Refused x → new_test u n k ≡ refused (number_of x)
+  pub refused_new : (x : Refusal) → r ≡ Err x → new_test u n k ≡ refused (number_of x)
   refused_new x e = subst (TestsNew u n k) e h
 
-module _ (b : Builder) (k : ℕ) (r : Tested) (h : TestsBuilder b k r) where
-  pub passed_builder : (s : Sizes) → r ≡ tested.Passed s → Roomy b k s
+module _ (b : Builder) (k : ℕ) (r : Result Sizes Refusal) (h : TestsBuilder b k r) where
+  pub passed_builder : (s : Sizes) → r ≡ Ok s → Roomy b k s
   passed_builder s e = subst (TestsBuilder b k) e h
 
-  pub refused_builder : (x : Refusal) → r ≡ tested.Refused x → (others : Answer) → builder_test b k others ≡ refused (number_of x)
+  pub refused_builder : (x : Refusal) → r ≡ Err x → (others : Answer) → builder_test b k others ≡ refused (number_of x)
   refused_builder x e = subst (TestsBuilder b k) e h
 
-module _ (b : Builder) (t k : ℕ) (r : Tested) (h : TestsPush b t k r) where
-  pub passed_push : (s : Sizes) → r ≡ tested.Passed s → Fileable b t k s
+module _ (b : Builder) (t k : ℕ) (r : Result Sizes Refusal) (h : TestsPush b t k r) where
+  pub passed_push : (s : Sizes) → r ≡ Ok s → Fileable b t k s
   passed_push s e = subst (TestsPush b t k) e h
 
-  pub refused_push : (x : Refusal) → r ≡ tested.Refused x → push_test b t k ≡ refused (number_of x)
+  pub refused_push : (x : Refusal) → r ≡ Err x → push_test b t k ≡ refused (number_of x)
   refused_push x e = subst (TestsPush b t k) e h
 
-module _ (b : Builder) (c : Bool) (w : List ℕ) (r : Tested) (h : TestsBuild b c w r) where
-  pub passed_build : (s : Sizes) → r ≡ tested.Passed s → Finishable b c s w
+module _ (b : Builder) (c : Bool) (w : List ℕ) (r : Result Sizes Refusal) (h : TestsBuild b c w r) where
+  pub passed_build : (s : Sizes) → r ≡ Ok s → Finishable b c s w
   passed_build s e = subst (TestsBuild b c w) e h
 
-  pub refused_build : (x : Refusal) → r ≡ tested.Refused x → build_test b c w ≡ refused (number_of x)
+  pub refused_build : (x : Refusal) → r ≡ Err x → build_test b c w ≡ refused (number_of x)
   refused_build x e = subst (TestsBuild b c w) e h
 
 -- ---- nothing stands against a call
@@ -79,16 +77,9 @@ nothing_against_build b c w s f =
 
 -- ---- what a check of the bits says
 
-apart : (x : ℕ) → checked.Last x ≡ checked.Wrong → ⊥
-apart x q = let z : ◌≡◌ {A = ℕ} 0 1 = cc in omega arith
-
-last_by : (k : Bool) (x t y : ℕ) → checked.Last x ≡ cond k (checked.Last t) checked.Wrong → eqb x y ≡ (k && eqb t y)
-last_by true x t y q = ap (λ (z : ℕ). eqb z y) (let z : x ≡ t = cc in z)
-last_by false x t y q = absurd (apart x q)
-
-wrong_by : (k : Bool) (t y : ℕ) → checked.Wrong ≡ cond k (checked.Last t) checked.Wrong → false ≡ (k && eqb t y)
-wrong_by true t y q = absurd (apart t (sym q))
-wrong_by false t y q = refl
+last_if : (k : Bool) (t y : ℕ) → option_eq eqb (cond k (Some t) None) (Some y) ≡ (k && eqb t y)
+last_if true t y = refl
+last_if false t y = refl
 
 -- ---- the bits
 
@@ -142,18 +133,14 @@ module _ (b : Builder) (w : List ℕ) (s : Sizes) (y : Roomy b (length w) s) whe
             omega arith;
       }
 
-  module _ (r : Checked) (e : r ≡ cond (holds u n m part) (checked.Last (last_of (times_in u n m part))) checked.Wrong) where
-    checks : r ≡ cond (holds u n m (held_words b w)) (checked.Last (last_of (held_times b w))) checked.Wrong
+  module _ (r : Option ℕ) (e : r ≡ cond (holds u n m part) (Some (last_of (times_in u n m part))) None) where
+    checks : r ≡ cond (holds u n m (held_words b w)) (Some (last_of (held_times b w))) None
     unfolding held_times
-    checks = e ∙ ap (λ (x : List ℕ). cond (holds u n m x) (checked.Last (last_of (times_in u n m x))) checked.Wrong) part_is
+    checks = e ∙ ap (λ (x : List ℕ). cond (holds u n m x) (Some (last_of (times_in u n m x))) None) part_is
 
-    pub is_last : (x : ℕ) → r ≡ checked.Last x → eqb x b.last ≡ intact b w
+    pub decided : option_eq eqb r (Some b.last) ≡ intact b w
     unfolding intact
-    is_last x d = last_by (holds u n m (held_words b w)) x (last_of (held_times b w)) b.last (sym d ∙ checks)
-
-    pub is_wrong : r ≡ checked.Wrong → false ≡ intact b w
-    unfolding intact
-    is_wrong d = wrong_by (holds u n m (held_words b w)) (last_of (held_times b w)) b.last (sym d ∙ checks)
+    decided = ap (λ (x : Option ℕ). option_eq eqb x (Some b.last)) checks ∙ last_if (holds u n m (held_words b w)) (last_of (held_times b w)) b.last
 
   pub is_holding : intact b w ≡ true → Holding b w
   is_holding ok = record { is_sound = y.is_sound; long = y.long; is_intact = ok }

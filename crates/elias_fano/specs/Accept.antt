@@ -1,6 +1,7 @@
 -- When an image is accepted, what it holds, and what the queries answer. i is an image. Document 01, "The image" and "The book of demand 3".
 -- Assumes nothing.
-use Rattle.std.specs.Prelude.{List, Bool, false, ◌&&◌, cond, ℕ, ◌+◌, ◌*◌, ◌^◌, eqb, leb, ltb, length, get_or, drop}
+use Rattle.errors.specs.declared.Refusal.{Refusal}
+use Rattle.std.specs.Prelude.{List, Bool, false, ◌&&◌, cond, ℕ, ◌+◌, ◌*◌, ◌^◌, eqb, leb, ltb, length, get_or, drop, Ok, Err, Some, None, Result, Option}
 use Rattle.errors.specs.Answer.{Answer, value, none, refused}
 use Rattle.errors.specs.Refusal.{number_of}
 use Rattle.bit_words.specs.Vector.{words_for}
@@ -9,12 +10,6 @@ use Rattle.elias_fano_words.specs.Sizes.{low_len, high_len, low_at, index_len}
 use Rattle.elias_fano_words.specs.Image.{image}
 use Rattle.elias_fano_words.specs.Times.{rising, unrepeated_if, times_in}
 use Rattle.elias_fano.specs.declared.image.Parts.{Parts}
-use Rattle.elias_fano.specs.declared.image.Opened.{Opened}
-use Rattle.elias_fano.specs.declared.image.Opened.TheVariants as opened
-use Rattle.elias_fano.specs.declared.image.Number.{Number}
-use Rattle.elias_fano.specs.declared.image.Number.TheVariants as num
-use Rattle.elias_fano.specs.declared.image.Value.{Value}
-use Rattle.elias_fano.specs.declared.image.Value.TheVariants as val
 
 -- the settings and the list of a record: a count from 1 to 16,777,216, no more times than that, in order and below u
 unfoldable pub fit : ℕ → ℕ → List ℕ → Bool
@@ -81,19 +76,9 @@ pub data Opening : Type 0 where
   parts : Parts → Opening
   unopened : ℕ → Opening
 
-abbrev pub of_opened : Opened → Opening
-of_opened (opened.Image p) = parts p
-of_opened (opened.Refused e) = unopened (number_of e)
-
-abbrev pub of_number : Number → Answer
-of_number (num.Is k) = value k
-of_number num.Nothing = none
-of_number (num.Refused e) = refused (number_of e)
-
-abbrev pub of_value : Value → Answer
-of_value (val.Is t) = value t
-of_value val.Nothing = none
-of_value (val.Refused e) = refused (number_of e)
+abbrev pub of_opened : Result Parts Refusal → Opening
+of_opened (Ok p) = parts p
+of_opened (Err e) = unopened (number_of e)
 
 -- ---- opening; 7 comes first
 

@@ -1,13 +1,10 @@
 -- What the functions inside the crate find of an image, as facts, and what a query of an opened image demands. i is an image. Assumes nothing.
-use Rattle.std.specs.Prelude.{◌≡◌, List, [], true, false, cond, ℕ, ◌+◌, ◌-◌, ◌*◌, ◌≤◌, ◌<◌, length, get_or, take, drop}
-use Rattle.broadword.specs.Places.{SelectInByte, select}
-use Rattle.broadword.specs.declared.Found.TheVariants.{At}
+use Rattle.std.specs.Prelude.{◌≡◌, List, [], true, false, cond, ℕ, ◌+◌, ◌-◌, ◌*◌, ◌≤◌, ◌<◌, length, get_or, take, drop, Some, None, Option}
+use Rattle.broadword.specs.Places.{select}
 use Rattle.bit_words.specs.Vector.{words_for, bit_over}
 use Rattle.darray_positions.specs.Index.{index_words}
 use Rattle.darray_positions.specs.Positions.{positions}
 use Rattle.elias_fano_words.specs.Sizes.{low_len, high_len, image_len}
-use Rattle.elias_fano.specs.declared.image.Header.{Header}
-use Rattle.elias_fano.specs.declared.image.Header.TheVariants as head
 use Rattle.elias_fano.specs.declared.image.Parts.{Parts}
 use Rattle.elias_fano.specs.Accept.{universe, declared, pushed, ranked, accepted, ones_at, zeros_at, parts_of}
 
@@ -51,9 +48,9 @@ pub record Headed (i : List ℕ) : Type 0 where
   pub counts : Counts (declared i) (pushed i) (get_or i 3 0)
   pub complete : Complete i
 
-abbrev pub Heads : List ℕ → Header → Type 0
-Heads i (head.Parts p) = (p ≡ parts_of i) × Headed i
-Heads i head.Wrong = accepted i ≡ true → ⊥
+abbrev pub Heads : List ℕ → Option Parts → Type 0
+Heads i (Some p) = (p ≡ parts_of i) × Headed i
+Heads i None = accepted i ≡ true → ⊥
 
 -- the high words
 abbrev pub high_in : List ℕ → List ℕ
@@ -72,15 +69,14 @@ pub record Indexes (i : List ℕ) : Type 0 where
 abbrev pub high_part : List ℕ → Parts → List ℕ
 high_part i p = take (p.low_at - 6) (drop 6 i)
 
--- an accepted image with its parts, and the table of select
-pub record Open (i : List ℕ) (p : Parts) (table : List ℕ) : Type 0 where
+-- an accepted image with its parts
+pub record Open (i : List ℕ) (p : Parts) : Type 0 where
   pub ok : accepted i ≡ true
   pub parts : p ≡ parts_of i
-  pub rule : SelectInByte table
 
 -- the one of the time with the number k stands at the place x of the high bits
 pub record OneAt (i : List ℕ) (p : Parts) (k x : ℕ) : Type 0 where
   pub ok : accepted i ≡ true
   pub parts : p ≡ parts_of i
   pub below : k < p.num_pushed
-  pub place : select (bit_over true (high_part i p)) p.high_len k ≡ At x
+  pub place : select (bit_over true (high_part i p)) p.high_len k ≡ Some x

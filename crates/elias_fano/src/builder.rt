@@ -4,15 +4,14 @@
 // `push` takes constant time; `new`, `resume` and `build` take time linear in the words. Nothing is allocated. The builder is a plain value, and may
 // be any: one that no run could hold is refused.
 ghost use Rattle.std.specs.Prelude.{◌≡◌, length};
-ghost use Rattle.elias_fano.specs.Accept.{of_number};
+ghost use Rattle.errors.specs.Answer.{of_result};
 ghost use Rattle.elias_fano.specs.Made.{nobody, of_pushed, of_built};
 ghost use Rattle.elias_fano.specs.Steps.{limit_of, new_of, sound, filed, push_of, intact, build_of, zeros, resume_of};
 ghost use Rattle.elias_fano.specs.Testing.{TestsNew, Roomy, TestsBuilder, Fileable, TestsPush, TestsBuild};
 
 use crate::finish::{has_room, write_image};
-use crate::image::Number;
 use bit_words::{WORD_LEN, fill, put_bits, set_one};
-use elias_fano_words::check::{Checked, check};
+use elias_fano_words::check::check;
 use elias_fano_words::sizes::{MAX_VALS, Sizes, limit_of, of_record};
 use errors::Refusal;
 
@@ -25,113 +24,79 @@ pub struct Builder {
     pub last: u64,
 }
 
-// The builder that a call hands back.
-#[derive(Clone, Copy)]
-pub enum Pushed {
-    Accepted(Builder),
-    Refused(Refusal),
-}
-
-// How many words the image has.
-#[derive(Clone, Copy)]
-pub enum Built {
-    Words(usize),
-    Refused(Refusal),
-}
-
-// What the tests of a call find: the sizes of the record, or a refusal.
-#[derive(Clone, Copy)]
-enum Tested {
-    Passed(Sizes),
-    Refused(Refusal),
-}
-
 // How many words are enough for every record of these settings (document 02 (vii)): in so many no start and no push is refused for want of words, nor a build with
 // this choice; with `rank`, nor one without it.
-pub fn limit(universe: u64, num_vals: u64, rank: bool) -> Number
-    ensures { of_number result ≡ limit_of universe num_vals rank }
+pub fn limit(universe: u64, num_vals: u64, rank: bool) -> Result<usize, Refusal>
+    ensures { of_result result ≡ limit_of universe num_vals rank }
 {
     if num_vals == 0 {
-        return Number::Refused(Refusal::NoValues);
+        return Err(Refusal::NoValues);
     }
     if num_vals > MAX_VALS {
-        return Number::Refused(Refusal::TooMany);
+        return Err(Refusal::TooMany);
     }
     let s = of_record(universe, num_vals);
-    Number::Is(limit_of(s, num_vals as usize, rank))
+    Ok(limit_of(s, num_vals as usize, rank))
 }
 
 // Begins a record of up to `num_vals` values below `universe` (document 01: a start).
-pub fn new(universe: u64, num_vals: u64, buffer: &mut [u64]) -> Pushed
+pub fn new(universe: u64, num_vals: u64, buffer: &mut [u64]) -> Result<Builder, Refusal>
     ensures { of_pushed nobody result buffer.new ≡ new_of universe num_vals buffer.old }
 {
-    match test_new(universe, num_vals, buffer.len()) {
-        Tested::Passed(s) => {
-            fill(&mut *buffer, s.start_len, 0);
-            Pushed::Accepted(Builder {
-                universe,
-                num_vals,
-                num_pushed: 0,
-                last: 0,
-            })
-        }
-        Tested::Refused(e) => Pushed::Refused(e),
-    }
+    let s = test_new(universe, num_vals, buffer.len())?;
+    fill(&mut *buffer, s.start_len, 0);
+    Ok(Builder {
+        universe,
+        num_vals,
+        num_pushed: 0,
+        last: 0,
+    })
 }
 
 // Files one value more, which must not be below the last (document 01: a reading).
-pub fn push(b: Builder, val: u64, buffer: &mut [u64]) -> Pushed
+pub fn push(b: Builder, val: u64, buffer: &mut [u64]) -> Result<Builder, Refusal>
     ensures { of_pushed b result buffer.new ≡ push_of b val buffer.old }
 {
-    match test_push(b, val, buffer.len()) {
-        Tested::Passed(s) => {
-            file(b, val, s, &mut *buffer);
-            Pushed::Accepted(Builder {
-                universe: b.universe,
-                num_vals: b.num_vals,
-                num_pushed: b.num_pushed + 1,
-                last: val,
-            })
-        }
-        Tested::Refused(e) => Pushed::Refused(e),
-    }
+    let s = test_push(b, val, buffer.len())?;
+    file(b, val, s, &mut *buffer);
+    Ok(Builder {
+        num_pushed: b.num_pushed + 1,
+        last: val,
+        ..b
+    })
 }
 
 // Makes an image of the words (document 01: a finish), with an index over the zeros for `rank`, if they hold nothing but the values that were pushed.
-pub fn build(b: Builder, rank: bool, buffer: &mut [u64]) -> Built
+pub fn build(b: Builder, rank: bool, buffer: &mut [u64]) -> Result<usize, Refusal>
     ensures { of_built b result buffer.new ≡ build_of b rank buffer.old }
 {
-    match test_build(b, rank, &*buffer) {
-        Tested::Passed(s) => Built::Words(write_image(&mut *buffer, b, rank, s)),
-        Tested::Refused(e) => Built::Refused(e),
-    }
+    let s = test_build(b, rank, &*buffer)?;
+    Ok(write_image(&mut *buffer, b, rank, s))
 }
 
 // Goes on with a record whose builder and words were stored, as after a power cut: the builder again, if some run leaves it and these words of its start. Nothing is written.
-pub fn resume(b: Builder, words: &[u64]) -> Pushed
+pub fn resume(b: Builder, words: &[u64]) -> Result<Builder, Refusal>
     ensures { of_pushed b result words.now ≡ resume_of b words.now }
 {
-    match test_builder(b, words.len()) {
-        Tested::Passed(s) => resume_by(b, s, words),
-        Tested::Refused(e) => Pushed::Refused(e),
-    }
+    let s = test_builder(b, words.len())?;
+    resume_by(b, s, words)
 }
 
 // The tests of a start with len words.
-fn test_new(universe: u64, num_vals: u64, len: usize) -> Tested
+fn test_new(universe: u64, num_vals: u64, len: usize) -> Result<Sizes, Refusal>
     ensures { TestsNew universe num_vals len result }
 {
     if num_vals == 0 {
-        return Tested::Refused(Refusal::NoValues);
+        return Err(Refusal::NoValues);
     }
     if num_vals > MAX_VALS {
-        return Tested::Refused(Refusal::TooMany);
+        return Err(Refusal::TooMany);
     }
     let s = of_record(universe, num_vals);
     if len < s.start_len {
-        return Tested::Refused(Refusal::ShortBuffer);
+        return Err(Refusal::ShortBuffer);
     }
-    Tested::Passed(s)
+    Ok(s)
 }
 
 // Whether a run could hold these numbers.
@@ -154,44 +119,42 @@ fn is_sound(b: Builder) -> bool
 }
 
 // The tests that a reading and a finish begin with.
-fn test_builder(b: Builder, len: usize) -> Tested
+fn test_builder(b: Builder, len: usize) -> Result<Sizes, Refusal>
     ensures { TestsBuilder b len result }
 {
     if !is_sound(b) {
-        return Tested::Refused(Refusal::Invalid);
+        return Err(Refusal::Invalid);
     }
     let s = of_record(b.universe, b.num_vals);
     if len < s.start_len {
-        return Tested::Refused(Refusal::ShortBuffer);
+        return Err(Refusal::ShortBuffer);
     }
-    Tested::Passed(s)
+    Ok(s)
 }
 
 // The tests of a value, of which nothing is computed: s is handed on.
-fn test_value(b: Builder, val: u64, s: Sizes, len: usize) -> Tested
+fn test_value(b: Builder, val: u64, s: Sizes, len: usize) -> Result<Sizes, Refusal>
     requires { Roomy b len s }
     ensures { TestsPush b val len result }
 {
     if val < b.last {
-        return Tested::Refused(Refusal::Decreasing);
+        return Err(Refusal::Decreasing);
     }
     if val >= b.universe {
-        return Tested::Refused(Refusal::OutOfUniverse);
+        return Err(Refusal::OutOfUniverse);
     }
     if b.num_pushed == b.num_vals {
-        return Tested::Refused(Refusal::Full);
+        return Err(Refusal::Full);
     }
-    Tested::Passed(s)
+    Ok(s)
 }
 
 // The tests of a reading with len words.
-fn test_push(b: Builder, val: u64, len: usize) -> Tested
+fn test_push(b: Builder, val: u64, len: usize) -> Result<Sizes, Refusal>
     ensures { TestsPush b val len result }
 {
-    match test_builder(b, len) {
-        Tested::Passed(s) => test_value(b, val, s, len),
-        Tested::Refused(e) => Tested::Refused(e),
-    }
+    let s = test_builder(b, len)?;
+    test_value(b, val, s, len)
 }
 
 // Files the next value: its one high bit, and its low bits.
@@ -217,7 +180,7 @@ fn is_intact(b: Builder, s: Sizes, words: &[u64]) -> bool
     ensures { result ≡ intact b words.now }
 {
     let start = s.start_len;
-    match check(
+    let last = check(
         &words[6..start],
         b.universe,
         b.num_vals,
@@ -225,10 +188,8 @@ fn is_intact(b: Builder, s: Sizes, words: &[u64]) -> bool
         s.low_len,
         s.high_len,
         false,
-    ) {
-        Checked::Last(last) => last == b.last,
-        Checked::Wrong => false,
-    }
+    );
+    last == Some(b.last)
 }
 
 // Whether all words are 0.
@@ -246,39 +207,37 @@ fn are_zeros(words: &[u64]) -> bool
 }
 
 // The builder again, by the words: those of the header are 0 before a finish.
-fn resume_by(b: Builder, s: Sizes, words: &[u64]) -> Pushed
+fn resume_by(b: Builder, s: Sizes, words: &[u64]) -> Result<Builder, Refusal>
     requires { Roomy b (length words.now) s }
     ensures { of_pushed b result words.now ≡ resume_of b words.now }
 {
     if !are_zeros(&words[..6]) {
-        return Pushed::Refused(Refusal::Invalid);
+        return Err(Refusal::Invalid);
     }
     if !is_intact(b, s, words) {
-        return Pushed::Refused(Refusal::Invalid);
+        return Err(Refusal::Invalid);
     }
-    Pushed::Accepted(b)
+    Ok(b)
 }
 
 // The tests of the words, and of the length of the image that they become.
-fn test_image(b: Builder, rank: bool, s: Sizes, words: &[u64]) -> Tested
+fn test_image(b: Builder, rank: bool, s: Sizes, words: &[u64]) -> Result<Sizes, Refusal>
     requires { Roomy b (length words.now) s }
     ensures { TestsBuild b rank words.now result }
 {
     if !is_intact(b, s, words) {
-        return Tested::Refused(Refusal::Invalid);
+        return Err(Refusal::Invalid);
     }
     if !has_room(words, b, rank, s) {
-        return Tested::Refused(Refusal::ShortBuffer);
+        return Err(Refusal::ShortBuffer);
     }
-    Tested::Passed(s)
+    Ok(s)
 }
 
 // The tests of a finish.
-fn test_build(b: Builder, rank: bool, words: &[u64]) -> Tested
+fn test_build(b: Builder, rank: bool, words: &[u64]) -> Result<Sizes, Refusal>
     ensures { TestsBuild b rank words.now result }
 {
-    match test_builder(b, words.len()) {
-        Tested::Passed(s) => test_image(b, rank, s, words),
-        Tested::Refused(e) => Tested::Refused(e),
-    }
+    let s = test_builder(b, words.len())?;
+    test_image(b, rank, s, words)
 }

@@ -15,7 +15,7 @@ ghost use Rattle.elias_fano.specs.Steps.{image_of, finished_words};
 
 use crate::builder::Builder;
 use bit_words::words_for;
-use darray::inner::{Measured, measure, write_within};
+use darray::inner::{measure, write_within};
 use elias_fano_words::sizes::{Sizes, image_len, index_len, limit_of};
 
 // How many of the ones or the zeros go to the overflow of their index.
@@ -24,8 +24,8 @@ fn overflow_over(words: &[u64], len: usize, over_one: bool) -> usize
     ensures { result ≡ before (positions over_one words.now len) (blocks (positions over_one words.now len)) }
 {
     match measure(words, len, over_one) {
-        Measured::Sizes(s) => s.overflow,
-        Measured::Refused(_) => 0,
+        Ok(s) => s.overflow,
+        Err(_) => 0,
     }
 }
 

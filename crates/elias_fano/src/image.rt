@@ -1,17 +1,17 @@
 // Reading an image. Every public query first decides whether the image is one that some run writes.
 ghost use Rattle.std.specs.Prelude.{true, cond, ◌≡◌, ◌-◌, ◌^◌, ◌≤◌, ◌<◌, get_or};
+ghost use Rattle.errors.specs.Answer.{of_option, of_optional};
 ghost use Rattle.darray.specs.Pending.{Decides};
 ghost use Rattle.elias_fano_words.specs.Sizes.{index_len};
 ghost use Rattle.elias_fano_words.specs.Times.{holds, holds_if};
-ghost use Rattle.elias_fano.specs.Accept.{universe as universe_of, declared, pushed, parts_by, parts_of, no_parts, times, of_opened, open_if, open_of, of_value};
+ghost use Rattle.elias_fano.specs.Accept.{universe as universe_of, declared, pushed, parts_by, parts_of, no_parts, times, of_opened, open_if, open_of};
 ghost use Rattle.elias_fano.specs.Ask.{Select, asked, query};
 ghost use Rattle.elias_fano.specs.Opening.{Counts, Limits, Complete, Headed, Heads, bits_in, Indexes, Open, OneAt};
 
 use bit_words::words_for;
-use broadword::select_in_byte_table;
 use darray::inner::is_index;
 use darray::select::select_within;
-use elias_fano_words::check::{Checked, check, low_at};
+use elias_fano_words::check::{check, low_at};
 use elias_fano_words::sizes::{MAX_VALS, index_len, index_len_if, of_record};
 use errors::Refusal;
 
@@ -29,36 +29,6 @@ pub struct Parts {
     pub zeros_at: usize,
     // Last, since a copy of what follows it would part words in two.
     pub rank: bool,
-}
-
-// The parts of an accepted image.
-#[derive(Clone, Copy)]
-pub enum Opened {
-    Image(Parts),
-    Refused(Refusal),
-}
-
-// How many, or the number of a value.
-#[derive(Clone, Copy)]
-pub enum Number {
-    Is(usize),
-    Nothing,
-    Refused(Refusal),
-}
-
-// A value of the sequence.
-#[derive(Clone, Copy)]
-pub enum Value {
-    Is(u64),
-    Nothing,
-    Refused(Refusal),
-}
-
-// The parts that a header gives, inside the crate.
-#[derive(Clone, Copy)]
-enum Header {
-    Parts(Parts),
-    Wrong,
 }
 
 // Where the parts stand, by the numbers of a header in their limits.
@@ -171,17 +141,17 @@ fn is_complete(image: &[u64], p: Parts) -> bool
 }
 
 // The header, if its numbers are in their limits and give the image's length.
-fn read_header(image: &[u64]) -> Header
+fn read_header(image: &[u64]) -> Option<Parts>
     ensures { Heads image.now result }
 {
     if !in_limits(image) {
-        return Header::Wrong;
+        return None;
     }
     let p = parts_in(image);
     if !is_complete(image, p) {
-        return Header::Wrong;
+        return None;
     }
-    Header::Parts(p)
+    Some(p)
 }
 
 // Whether the high and the low words hold nothing but the values, in order, and with `strict` none twice.
@@ -190,7 +160,7 @@ fn holds_values(image: &[u64], p: Parts, strict: bool) -> bool
     ensures { result ≡ holds_if (universe_of image.now) (declared image.now) strict (pushed image.now) (bits_in image.now) }
 {
     let ones_at = p.ones_at;
-    match check(
+    let last = check(
         &image[6..ones_at],
         p.universe,
         p.num_vals,
@@ -198,10 +168,8 @@ fn holds_values(image: &[u64], p: Parts, strict: bool) -> bool
         p.low_len,
         p.high_len,
         strict,
-    ) {
-        Checked::Last(_last) => true,
-        Checked::Wrong => false,
-    }
+    );
+    last.is_some()
 }
 
 // Whether the rest of the image is the indexes of its high bits. How many positions each has is known.
@@ -224,23 +192,23 @@ fn has_indexes(image: &[u64], p: Parts) -> bool
 }
 
 // Decides whether an image is one that some run writes and, with `strict`, repeats no value, in time linear in its words, and tells where its parts stand.
-pub fn open_if(image: &[u64], strict: bool) -> Opened
+pub fn open_if(image: &[u64], strict: bool) -> Result<Parts, Refusal>
     ensures { of_opened result ≡ open_if strict image.now }
 {
-    let Header::Parts(p) = read_header(image) else {
-        return Opened::Refused(Refusal::Invalid);
+    let Some(p) = read_header(image) else {
+        return Err(Refusal::Invalid);
     };
     if !holds_values(image, p, strict) {
-        return Opened::Refused(Refusal::Invalid);
+        return Err(Refusal::Invalid);
     }
     if !has_indexes(image, p) {
-        return Opened::Refused(Refusal::Invalid);
+        return Err(Refusal::Invalid);
     }
-    Opened::Image(p)
+    Ok(p)
 }
 
 // The same of a record, which may repeat values (document 01: opening).
-pub fn open(image: &[u64]) -> Opened
+pub fn open(image: &[u64]) -> Result<Parts, Refusal>
     ensures { of_opened result ≡ open_of image.now }
 {
     open_if(image, false)
@@ -257,8 +225,8 @@ pub fn value_at(image: &[u64], p: Parts, k: usize, place: usize) -> u64
 }
 
 // Where the one of the value with the number k stands, by the index: constant time but for the words between every 32nd one.
-pub fn one_at(image: &[u64], p: Parts, k: usize, table: &[u8; 2048]) -> usize
-    requires { Open image.now p table.now × (k < p.num_pushed) }
+pub fn one_at(image: &[u64], p: Parts, k: usize) -> usize
+    requires { Open image.now p × (k < p.num_pushed) }
     ensures { OneAt image.now p k result }
 {
     let start = p.low_at;
@@ -270,39 +238,33 @@ pub fn one_at(image: &[u64], p: Parts, k: usize, table: &[u8; 2048]) -> usize
         true,
         &image[ones_at..zeros_at],
         p.num_pushed as usize,
-        table,
         k,
     )
 }
 
 // The value with the number k, which there is.
-pub fn value_of(image: &[u64], p: Parts, k: usize, table: &[u8; 2048]) -> u64
-    requires { Open image.now p table.now × (k < p.num_pushed) }
+pub fn value_of(image: &[u64], p: Parts, k: usize) -> u64
+    requires { Open image.now p × (k < p.num_pushed) }
     ensures { result ≡ get_or (times image.now) k 0 }
 {
-    value_at(image, p, k, one_at(image, p, k, table))
+    value_at(image, p, k, one_at(image, p, k))
 }
 
 // The value with the number k, of an opened image.
-pub fn select_opened(image: &[u64], p: Parts, k: usize, table: &[u8; 2048]) -> Value
-    requires { Open image.now p table.now }
-    ensures { of_value result ≡ asked image.now (Select k) }
+pub fn select_opened(image: &[u64], p: Parts, k: usize) -> Option<u64>
+    requires { Open image.now p }
+    ensures { of_option result ≡ asked image.now (Select k) }
 {
     if k >= p.num_pushed as usize {
-        return Value::Nothing;
+        return None;
     }
-    Value::Is(value_of(image, p, k, table))
+    Some(value_of(image, p, k))
 }
 
 // The value with the number k.
-pub fn select(image: &[u64], k: usize) -> Value
-    ensures { of_value result ≡ query image.now (Select k) }
+pub fn select(image: &[u64], k: usize) -> Result<Option<u64>, Refusal>
+    ensures { of_optional result ≡ query image.now (Select k) }
 {
-    match open(image) {
-        Opened::Image(p) => {
-            let table = select_in_byte_table();
-            select_opened(image, p, k, &table)
-        }
-        Opened::Refused(e) => Value::Refused(e),
-    }
+    let p = open(image)?;
+    Ok(select_opened(image, p, k))
 }

@@ -7,8 +7,7 @@ ghost use Rattle.elias_fano.specs.Accept.{times};
 ghost use Rattle.elias_fano_walk.specs.Walking.{value_step_of};
 ghost use Rattle.elias_fano_forms.specs.Iterating.{Over, Starts, of_moved};
 
-use broadword::{debruijn64_table, select_in_byte_table};
-use elias_fano::image::{Opened, Parts, Value, open};
+use elias_fano::image::{Parts, open};
 use elias_fano_walk::walk::{Walk, begin};
 use errors::Refusal;
 
@@ -19,16 +18,10 @@ pub struct IterPlace {
     pub walk: Walk,
 }
 
-#[derive(Clone, Copy)]
-pub enum IterStart {
-    IterPlace(IterPlace),
-    Refused(Refusal),
-}
-
 // What a step by value leaves.
 #[derive(Clone, Copy)]
 pub struct Moved {
-    pub value: Value,
+    pub value: Option<u64>,
     pub cursor: IterPlace,
 }
 
@@ -39,17 +32,12 @@ pub struct Iter<'a> {
 }
 
 // The place of the value with the number k, in time linear in the words.
-pub fn start(image: &[u64], k: usize) -> IterStart
+pub fn start(image: &[u64], k: usize) -> Result<IterPlace, Refusal>
     ensures { Starts image.now k result }
 {
-    match open(image) {
-        Opened::Image(p) => {
-            let table = select_in_byte_table();
-            let w = begin(image, p, k, &table);
-            IterStart::IterPlace(IterPlace { parts: p, walk: w })
-        }
-        Opened::Refused(e) => IterStart::Refused(e),
-    }
+    let p = open(image)?;
+    let w = begin(image, p, k);
+    Ok(IterPlace { parts: p, walk: w })
 }
 
 // The iterator at a place of an image.
@@ -64,10 +52,9 @@ pub fn step(image: &[u64], c: IterPlace) -> Moved
     requires { Over image.now c }
     ensures { (of_moved result.value result.cursor ≡ value_step_of (times image.now) c.walk.number) × Over image.now result.cursor }
 {
-    let places = debruijn64_table();
     let p = c.parts;
     let w = c.walk;
-    let s = elias_fano_walk::walk::next(image, p, w, &places);
+    let s = elias_fano_walk::walk::next(image, p, w);
     let value = s.value;
     let walk = s.walk;
     Moved {
@@ -77,7 +64,7 @@ pub fn step(image: &[u64], c: IterPlace) -> Moved
 }
 
 // The next value, or none, and none again.
-pub fn next<'s, 'a>(it: &'s mut Iter<'a>) -> Value
+pub fn next<'s, 'a>(it: &'s mut Iter<'a>) -> Option<u64>
     requires { Over it.old.image.now it.old.cursor }
     ensures { (of_moved result it.new.cursor ≡ value_step_of (times it.old.image.now) it.old.cursor.walk.number) × (it.new.image ≡ it.old.image) × Over it.old.image.now it.new.cursor }
 {

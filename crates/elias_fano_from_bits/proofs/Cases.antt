@@ -1,4 +1,5 @@
 -- The call case by case. Assumes nothing.
+use Rattle.std.specs.Prelude.{Ok, Err, Result}
 use mathlib.Core.Path.{◌≡◌, sym, ap, ◌∙◌, subst}
 use mathlib.Core.List.{List, ◌++◌}
 use mathlib.Core.Bool.{Bool, true, false}
@@ -12,8 +13,6 @@ use Rattle.bit_words.specs.Vector.{invalid}
 use Rattle.elias_fano_from_bits.specs.Building.{Countable, Ready, Tests}
 use Rattle.elias_fano_from_bits.specs.FromBits.{ones_of, bits_image, ones_test, bits_test, bits_written, from_bits_of}
 use Rattle.elias_fano_from_bits.specs.declared.build.Job.{Job}
-use Rattle.elias_fano_from_bits.specs.declared.build.TestedBits.{TestedBits}
-use Rattle.elias_fano_from_bits.specs.declared.build.TestedBits.TheVariants as tested
 
 -- ---- the tests
 
@@ -31,11 +30,11 @@ module _ (ws : List ℕ) (len : ℕ) (c : Bool) (k : ℕ) where
     unfolding ones_test
     ones_done h = simp (le-ltb 16777216 (length (ones_of ws len)) ok.most, le-ltb k (length (bits_image ws len c)) h)
 
-  module _ (r : TestedBits) (t : Tests ws len c k r) where
-    pub passed : (j : Job) → r ≡ tested.Passed j → Ready ws len c k j
+  module _ (r : Result Job Refusal) (t : Tests ws len c k r) where
+    pub passed : (j : Job) → r ≡ Ok j → Ready ws len c k j
     passed j e = subst (Tests ws len c k) e t
 
-    pub not_passed : (x : Refusal) → r ≡ tested.Refused x → ones_test ws len c k ≡ refused (number_of x)
+    pub not_passed : (x : Refusal) → r ≡ Err x → ones_test ws len c k ≡ refused (number_of x)
     not_passed x e = subst (Tests ws len c k) e t
 
 -- ---- the calls

@@ -1,4 +1,5 @@
 -- Marks in the source: how one is moved on, and which position of the high bits is found by it. Assumes nothing.
+use Rattle.std.specs.Prelude.{Some}
 use mathlib.Core.Path.{◌≡◌, refl, sym, ap, ap₂, ◌∙◌, subst, subst⁻¹}
 use mathlib.Core.List.{List}
 use mathlib.Core.Bool.{Bool, true, false}
@@ -7,8 +8,7 @@ use native.Mathlib.Nat.{le_refl, le_trans, le_of_lt, mul-le-mul, div-le_self}
 use native.Mathlib.Omega.{arith}
 use lib.ListN.{length, get_or}
 use Rattle.broadword.specs.Bits.{count}
-use Rattle.broadword.specs.Places.{select, SelectInByte}
-use Rattle.broadword.specs.declared.Found.TheVariants.{At}
+use Rattle.broadword.specs.Places.{select}
 use Rattle.broadword.proofs.Count.{count_mono}
 use Rattle.broadword.proofs.Find.{selected}
 use Rattle.bit_words.specs.Inner.{Findable}
@@ -71,12 +71,11 @@ module _ (ws : List ℕ) (len l k : ℕ) (m : Mark) (s : Seekable ws len true l 
   room : words_for len ≤ length ws
   room = (valid ws len s.countable.valid).room
 
-  pub findable : (used : ℕ) → used ≡ words_for len → (table : List ℕ) → SelectInByte table → Findable ws used m.place table
-  findable used e table r = record {
+  pub findable : (used : ℕ) → used ≡ words_for len → Findable ws used m.place
+  findable used e = record {
     start = let p = place_lt in omega arith;
     room = let p = room in omega arith;
     few = omega (arith, s.countable.small);
-    rule = r;
   }
 
   number_is : count f m.place + (k - m.ones) ≡ k
@@ -86,7 +85,7 @@ module _ (ws : List ℕ) (len l k : ℕ) (m : Mark) (s : Seekable ws len true l 
     pub ahead : count (bit_over true ws) m.place + (k - m.ones) < count (bit_over true ws) (used * 64)
     ahead = let n = number_is in let c = counted in let d = count_mono f len (used * 64) (omega arith) in omega arith
 
-    module _ (x : ℕ) (ex : select (bit_over true ws) (used * 64) (count (bit_over true ws) m.place + (k - m.ones)) ≡ At x) where
+    module _ (x : ℕ) (ex : select (bit_over true ws) (used * 64) (count (bit_over true ws) m.place + (k - m.ones)) ≡ Some x) where
       found : (x < len) × (x ≡ get_or (ones_of ws len) k 0) × (count (bit_over true ws) x ≡ k)
       found =
           let q = selected f (used * 64) k x (sym (ap (select f (used * 64)) number_is) ∙ ex) in

@@ -1,6 +1,7 @@
 -- What the functions that write the record of a bit vector demand and find, inside the crate: no public contract rests on it. ws are the words of the bits,
 -- len is their length. Assumes nothing.
-use Rattle.std.specs.Prelude.{◌≡◌, List, ◌++◌, Bool, true, false, ℕ, suc, ◌+◌, ◌*◌, ◌^◌, ◌≤◌, ◌<◌, length, get_or, drop, replicate}
+use Rattle.errors.specs.declared.Refusal.{Refusal}
+use Rattle.std.specs.Prelude.{◌≡◌, List, ◌++◌, Bool, true, false, ℕ, suc, ◌+◌, ◌*◌, ◌^◌, ◌≤◌, ◌<◌, length, get_or, drop, replicate, Ok, Err, Result}
 use Rattle.errors.specs.Answer.{refused}
 use Rattle.errors.specs.Refusal.{number_of}
 use Rattle.broadword.specs.Bits.{count}
@@ -17,8 +18,6 @@ use Rattle.elias_fano_from_bits.specs.declared.measure.Mark.{Mark}
 use Rattle.elias_fano_from_bits.specs.declared.measure.HighPlace.{HighPlace}
 use Rattle.elias_fano_from_bits.specs.declared.build.Job.{Job}
 use Rattle.elias_fano_from_bits.specs.declared.build.One.{One}
-use Rattle.elias_fano_from_bits.specs.declared.build.TestedBits.{TestedBits}
-use Rattle.elias_fano_from_bits.specs.declared.build.TestedBits.TheVariants as tested
 
 -- bits with as many ones as a record takes
 pub record Countable (ws : List ℕ) (len : ℕ) : Type 0 where
@@ -105,6 +104,6 @@ pub record Ready (ws : List ℕ) (len : ℕ) (c : Bool) (k : ℕ) (j : Job) : Ty
   pub sizable : Sizable ws len j.ones j.sizes
   pub room : length (bits_image ws len c) ≤ k
 
-abbrev pub Tests : List ℕ → ℕ → Bool → ℕ → TestedBits → Type 0
-Tests ws len c k (tested.Passed j) = Ready ws len c k j
-Tests ws len c k (tested.Refused e) = ones_test ws len c k ≡ refused (number_of e)
+abbrev pub Tests : List ℕ → ℕ → Bool → ℕ → Result Job Refusal → Type 0
+Tests ws len c k (Ok j) = Ready ws len c k j
+Tests ws len c k (Err e) = ones_test ws len c k ≡ refused (number_of e)

@@ -3,21 +3,17 @@
 // One pass counts the ones, and one files the places. In a buffer below the limit (document 02 (vii)) one for each index finds before what goes to its overflow
 // (`measure`). So every refusal is decided before the first word is written.
 ghost use Rattle.std.specs.Prelude.{◌≡◌, false, cond, ◌++◌, ◌<◌, leb, length, drop};
-ghost use Rattle.errors.specs.Answer.{leaves, passing};
-ghost use Rattle.broadword.specs.Places.{SelectInByte, Debruijn64};
+ghost use Rattle.errors.specs.Answer.{leaves, passing, of_result};
 ghost use Rattle.darray_positions.specs.Index.{blocks, before};
 ghost use Rattle.elias_fano_words.specs.Times.{last_of};
-ghost use Rattle.elias_fano.specs.Made.{built_answer};
 ghost use Rattle.elias_fano_from_bits.specs.Building.{Countable, positions_of, Sizable, OnesTaken, NextTaken, Writing, Zeroed, filed_ones, Ready, Tests, Counted};
 ghost use Rattle.elias_fano_from_bits.specs.FromBits.{ones_of, bits_image, ones_test, bits_written, from_bits_of};
 
 use crate::measure::overflow_of;
-use bit_vectors::Place;
 use bit_vectors::unary::{Unary, next_within, walk_from};
 use bit_words::{fill, is_invalid};
-use broadword::{debruijn64_table, select_in_byte_table};
 use darray_positions::scan::count_positions;
-use elias_fano::builder::{Builder, Built, file};
+use elias_fano::builder::{Builder, file};
 use elias_fano::finish::write_image;
 use elias_fano_words::sizes::{MAX_VALS, Sizes, image_len, limit_of, of_record};
 use errors::Refusal;
@@ -29,13 +25,6 @@ struct Job {
     sizes: Sizes,
 }
 
-// What the tests find.
-#[derive(Clone, Copy)]
-enum TestedBits {
-    Passed(Job),
-    Refused(Refusal),
-}
-
 // The place of a one, and the walk over those after it.
 #[derive(Clone, Copy)]
 struct One {
@@ -44,19 +33,12 @@ struct One {
 }
 
 // How many zeros of the high bits go to the overflow, if there is to be an index over them.
-fn zeros_overflow(
-    words: &[u64],
-    len: usize,
-    n: usize,
-    s: Sizes,
-    rank: bool,
-    table: &[u8; 2048],
-) -> usize
-    requires { Sizable words.now len n s × SelectInByte table.now }
+fn zeros_overflow(words: &[u64], len: usize, n: usize, s: Sizes, rank: bool) -> usize
+    requires { Sizable words.now len n s }
     ensures { result ≡ cond rank (before (positions_of words.now len false) (blocks (positions_of words.now len false))) 0 }
 {
     if rank {
-        return overflow_of(words, len, s.low_len, false, s.high_len - n, table);
+        return overflow_of(words, len, s.low_len, false, s.high_len - n);
     }
     0
 }
@@ -66,9 +48,8 @@ fn measured_len(words: &[u64], len: usize, n: usize, s: Sizes, rank: bool) -> us
     requires { Sizable words.now len n s }
     ensures { result ≡ length (bits_image words.now len rank) }
 {
-    let table = select_in_byte_table();
-    let ones = overflow_of(words, len, s.low_len, true, n, &table);
-    let zeros = zeros_overflow(words, len, n, s, rank, &table);
+    let ones = overflow_of(words, len, s.low_len, true, n);
+    let zeros = zeros_overflow(words, len, n, s, rank);
     image_len(s, n, rank, ones, zeros)
 }
 
@@ -84,29 +65,20 @@ fn has_room(words: &[u64], len: usize, n: usize, s: Sizes, rank: bool, room: usi
 }
 
 // The next one, which there is.
-fn take_one(words: &[u64], len: usize, i: usize, w: Unary, places: &[u8; 64]) -> One
-    requires { OnesTaken words.now len i w × (i < length (ones_of words.now len)) × Debruijn64 places.now }
+fn take_one(words: &[u64], len: usize, i: usize, w: Unary) -> One
+    requires { OnesTaken words.now len i w × (i < length (ones_of words.now len)) }
     ensures { NextTaken words.now len i result }
 {
-    let s = next_within(words, len, w, places);
-    let found = s.place;
-    let rest = s.walk;
-    let Place::At(place) = found else {
-        return One { place: 0, rest };
-    };
-    One { place, rest }
+    let s = next_within(words, len, w);
+    One {
+        place: s.place.unwrap_or(None).unwrap_or(0),
+        rest: s.walk,
+    }
 }
 
 // Files the places of the n ones, one after the other, into words that are zeroed for them; the last of them.
-fn file_all(
-    words: &[u64],
-    len: usize,
-    n: usize,
-    s: Sizes,
-    places: &[u8; 64],
-    buffer: &mut [u64],
-) -> u64
-    requires { Writing words.now len n s (length buffer.old) × Debruijn64 places.now × Zeroed words.now len buffer.old }
+fn file_all(words: &[u64], len: usize, n: usize, s: Sizes, buffer: &mut [u64]) -> u64
+    requires { Writing words.now len n s (length buffer.old) × Zeroed words.now len buffer.old }
     ensures { (buffer.new ≡ filed_ones words.now len buffer.old) × (result ≡ last_of (ones_of words.now len)) }
 {
     let mut w = walk_from(words, 0);
@@ -119,9 +91,8 @@ fn file_all(
             num_pushed: i as u64,
             last,
         };
-        let one = take_one(words, len, i, w, places);
-        let rest = one.rest;
-        w = rest;
+        let one = take_one(words, len, i, w);
+        w = one.rest;
         last = one.place as u64;
         file(b, last, s, &mut *buffer);
         i += 1;
@@ -134,9 +105,8 @@ fn file_ones(words: &[u64], len: usize, n: usize, s: Sizes, buffer: &mut [u64]) 
     requires { Writing words.now len n s (length buffer.old) }
     ensures { (buffer.new ≡ filed_ones words.now len buffer.old) × (result ≡ last_of (ones_of words.now len)) }
 {
-    let places = debruijn64_table();
     fill(&mut *buffer, s.start_len, 0);
-    file_all(words, len, n, s, &places, &mut *buffer)
+    file_all(words, len, n, s, &mut *buffer)
 }
 
 // Writes the image. How many words it has comes back.
@@ -157,53 +127,62 @@ fn write(words: &[u64], len: usize, rank: bool, j: Job, buffer: &mut [u64]) -> u
 }
 
 // The tests of the room for the image of n ones.
-fn test_room(words: &[u64], len: usize, n: usize, rank: bool, room: usize) -> TestedBits
+fn test_room(words: &[u64], len: usize, n: usize, rank: bool, room: usize) -> Result<Job, Refusal>
     requires { Countable words.now len × (n ≡ length (ones_of words.now len)) }
     ensures { Tests words.now len rank room result }
 {
     let s = of_record(len as u64, n as u64);
     if !has_room(words, len, n, s, rank, room) {
-        return TestedBits::Refused(Refusal::ShortBuffer);
+        return Err(Refusal::ShortBuffer);
     }
-    TestedBits::Passed(Job { ones: n, sizes: s })
+    Ok(Job { ones: n, sizes: s })
 }
 
 // The tests of n ones, with so many words lent.
-fn test_ones(words: &[u64], len: usize, n: usize, rank: bool, room: usize) -> TestedBits
+fn test_ones(words: &[u64], len: usize, n: usize, rank: bool, room: usize) -> Result<Job, Refusal>
     requires { Counted words.now len n }
     ensures { Tests words.now len rank room result }
 {
     if n as u64 > MAX_VALS {
-        return TestedBits::Refused(Refusal::TooMany);
+        return Err(Refusal::TooMany);
     }
     test_room(words, len, n, rank, room)
 }
 
 // Writes the record of the places of n ones to the front of the buffer, and leaves its later words. The answer is how many words it has. The
 // universe is the length, and as many values are declared as there are ones.
-pub fn from_ones(words: &[u64], len: usize, n: usize, rank: bool, buffer: &mut [u64]) -> Built
+pub fn from_ones(
+    words: &[u64],
+    len: usize,
+    n: usize,
+    rank: bool,
+    buffer: &mut [u64],
+) -> Result<usize, Refusal>
     requires { Counted words.now len n }
-    ensures { leaves (built_answer result) buffer.new ≡ passing (ones_test words.now len rank (length buffer.old)) buffer.old (bits_written words.now len rank buffer.old) }
+    ensures { leaves (of_result result) buffer.new ≡ passing (ones_test words.now len rank (length buffer.old)) buffer.old (bits_written words.now len rank buffer.old) }
 {
-    match test_ones(words, len, n, rank, buffer.len()) {
-        TestedBits::Passed(j) => Built::Words(write(words, len, rank, j, &mut *buffer)),
-        TestedBits::Refused(e) => Built::Refused(e),
-    }
+    let j = test_ones(words, len, n, rank, buffer.len())?;
+    Ok(write(words, len, rank, j, &mut *buffer))
 }
 
 // The same of bits as they are handed in: without a one there is no record of them.
-pub fn from_bits(words: &[u64], len: usize, rank: bool, buffer: &mut [u64]) -> Built
-    ensures { leaves (built_answer result) buffer.new ≡ from_bits_of words.now len rank buffer.old }
+pub fn from_bits(
+    words: &[u64],
+    len: usize,
+    rank: bool,
+    buffer: &mut [u64],
+) -> Result<usize, Refusal>
+    ensures { leaves (of_result result) buffer.new ≡ from_bits_of words.now len rank buffer.old }
 {
     if is_invalid(words, len) {
-        return Built::Refused(Refusal::InvalidBits);
+        return Err(Refusal::InvalidBits);
     }
     if len == 0 {
-        return Built::Refused(Refusal::NoBits);
+        return Err(Refusal::NoBits);
     }
     let n = count_positions(words, len, true);
     if n == 0 {
-        return Built::Refused(Refusal::NoOnes);
+        return Err(Refusal::NoOnes);
     }
     from_ones(words, len, n, rank, &mut *buffer)
 }

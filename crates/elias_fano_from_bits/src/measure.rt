@@ -5,7 +5,6 @@
 // All functions are inner: they demand bits with as many ones as a record takes.
 ghost use Rattle.std.specs.Prelude.{◌≡◌, true, false, ◌+◌, ◌*◌, ◌^◌, ◌≤◌, ◌<◌, min, length};
 ghost use Rattle.broadword.specs.Bits.{count};
-ghost use Rattle.broadword.specs.Places.{SelectInByte};
 ghost use Rattle.bit_words.specs.Vector.{words_for, bit_over};
 ghost use Rattle.darray_positions.specs.Index.{blocks, before};
 ghost use Rattle.elias_fano_from_bits.specs.Building.{Countable, low_of, positions_of, Marked, Seekable, Seen};
@@ -64,19 +63,12 @@ fn bucket_end(len: usize, l: usize, k: usize) -> usize
 }
 
 // The one of the high bits with the number k.
-fn high_one(
-    words: &[u64],
-    len: usize,
-    l: usize,
-    k: usize,
-    from: Mark,
-    table: &[u8; 2048],
-) -> HighPlace
-    requires { Seekable words.now len true l k from × SelectInByte table.now }
+fn high_one(words: &[u64], len: usize, l: usize, k: usize, from: Mark) -> HighPlace
+    requires { Seekable words.now len true l k from }
     ensures { Seen words.now len true l k result }
 {
     let used = words_for(len);
-    let place = find_within(words, used, true, table, from.place, k - from.ones);
+    let place = find_within(words, used, true, from.place, k - from.ones);
     HighPlace {
         at: ((place >> l) + k) as u64,
         mark: Mark { place, ones: k },
@@ -103,27 +95,19 @@ fn high_place(
     over_one: bool,
     k: usize,
     from: Mark,
-    table: &[u8; 2048],
 ) -> HighPlace
-    requires { Seekable words.now len over_one l k from × SelectInByte table.now }
+    requires { Seekable words.now len over_one l k from }
     ensures { Seen words.now len over_one l k result }
 {
     if over_one {
-        return high_one(words, len, l, k, from, table);
+        return high_one(words, len, l, k, from);
     }
     high_zero(words, len, l, k, from)
 }
 
 // How many of the n positions go to the overflow of the index over the ones or the zeros.
-pub fn overflow_of(
-    words: &[u64],
-    len: usize,
-    l: usize,
-    over_one: bool,
-    n: usize,
-    table: &[u8; 2048],
-) -> usize
-    requires { Countable words.now len × (l ≡ low_of words.now len) × (n ≡ length (positions_of words.now len over_one)) × SelectInByte table.now }
+pub fn overflow_of(words: &[u64], len: usize, l: usize, over_one: bool, n: usize) -> usize
+    requires { Countable words.now len × (l ≡ low_of words.now len) × (n ≡ length (positions_of words.now len over_one)) }
     ensures { result ≡ before (positions_of words.now len over_one) (blocks (positions_of words.now len over_one)) }
 {
     let blocks = (n + (BLOCK_LEN - 1)) / BLOCK_LEN;
@@ -133,9 +117,9 @@ pub fn overflow_of(
     while j < blocks {
         let k = BLOCK_LEN * j;
         let size = block_size(n, j);
-        let first = high_place(words, len, l, over_one, k, from, table);
+        let first = high_place(words, len, l, over_one, k, from);
         let seen = first.mark;
-        let last = high_place(words, len, l, over_one, k + (size - 1), seen, table);
+        let last = high_place(words, len, l, over_one, k + (size - 1), seen);
         overflow += spilled(first.at, last.at, size);
         let mark = last.mark;
         from = mark;

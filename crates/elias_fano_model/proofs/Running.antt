@@ -1,4 +1,5 @@
 -- A run as its loop makes it, one call after the other, is what the model says: by the theorem on whole lists. Assumes nothing.
+use Rattle.std.specs.Prelude.{Ok, Err, Result}
 use mathlib.Core.Path.{◌≡◌, refl, sym, ap, ap₂, ◌∙◌}
 use mathlib.Core.List.{List, [], ◌∷◌}
 use mathlib.Core.Bool.{Bool, true, false, cond}
@@ -15,8 +16,6 @@ use Rattle.errors.specs.Refusal.{number_of}
 use Rattle.errors.specs.declared.Refusal.{Refusal}
 use Rattle.elias_fano_words.specs.Sizes.{start_len}
 use Rattle.elias_fano.specs.declared.builder.Builder.{Builder}
-use Rattle.elias_fano.specs.declared.builder.Pushed.{Pushed}
-use Rattle.elias_fano.specs.declared.builder.Pushed.TheVariants as pushed
 use Rattle.elias_fano.specs.Made.{Made, made, nobody, of_pushed}
 use Rattle.elias_fano.specs.Steps.{new_of, push_of, build_of}
 use Rattle.elias_fano.proofs.Cases as cases
@@ -176,9 +175,9 @@ module _ (u n : ℕ) (calls lent answers : List ℕ) where
         by_model u n calls lent answers (record { a_universe = hu; some = eqb-false _ _ p; most = ltb-false _ _ q; long = ltb-false _ _ r; words = hw }) b w e
         ∙ sym (run_all (eqb-false _ _ p) (ltb-false _ _ q) (ltb-false _ _ r))
 
-    pub begun : u < 2 ^ 64 → Words lent → (p : Pushed) (b : Builder) (w : List ℕ) → of_pushed nobody p w ≡ new_of u n lent → p ≡ pushed.Accepted b
+    pub begun : u < 2 ^ 64 → Words lent → (p : Result Builder Refusal) (b : Builder) (w : List ℕ) → of_pushed nobody p w ≡ new_of u n lent → p ≡ Ok b
         → went_on b w answers calls ≡ run_of u n calls lent answers
-    begun hu hw p b w e q = begun_by hu hw b w (sym (ap (λ (x : Pushed). of_pushed nobody x w) q) ∙ e) (eqb n 0) (ltb 16777216 n) (ltb (length lent) (start_len u n)) refl refl refl
+    begun hu hw p b w e q = begun_by hu hw b w (sym (ap (λ (x : Result Builder Refusal). of_pushed nobody x w) q) ∙ e) (eqb n 0) (ltb 16777216 n) (ltb (length lent) (start_len u n)) refl refl refl
 
     -- or refused
     same : (k j : ℕ) (w : List ℕ) → made (refused k) nobody w ≡ new_of u n lent → new_of u n lent ≡ made (refused j) nobody lent → run_of u n calls lent answers ≡ left (unbegun j) lent answers
@@ -194,5 +193,5 @@ module _ (u n : ℕ) (calls lent answers : List ℕ) where
     refused_by_lem k w e false false false p q r =
         absurd (refused_not k (answer_of_lem (refused k) nobody w _ e (cases.new_done u n lent (cases.new_passed u n (length lent) (eqb-false _ _ p) (ltb-false _ _ q) (ltb-false _ _ r)))))
 
-    pub refuses : (p : Pushed) (k : Refusal) (w : List ℕ) → of_pushed nobody p w ≡ new_of u n lent → p ≡ pushed.Refused k → left (unbegun (number_of k)) w answers ≡ run_of u n calls lent answers
-    refuses p k w e q = refused_by_lem (number_of k) w (sym (ap (λ (x : Pushed). of_pushed nobody x w) q) ∙ e) (eqb n 0) (ltb 16777216 n) (ltb (length lent) (start_len u n)) refl refl refl
+    pub refuses : (p : Result Builder Refusal) (k : Refusal) (w : List ℕ) → of_pushed nobody p w ≡ new_of u n lent → p ≡ Err k → left (unbegun (number_of k)) w answers ≡ run_of u n calls lent answers
+    refuses p k w e q = refused_by_lem (number_of k) w (sym (ap (λ (x : Result Builder Refusal). of_pushed nobody x w) q) ∙ e) (eqb n 0) (ltb 16777216 n) (ltb (length lent) (start_len u n)) refl refl refl

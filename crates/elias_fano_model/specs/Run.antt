@@ -1,6 +1,8 @@
 -- A list of calls as words, and what a run of it leaves, by the model. Two words are a call: 0 and a time for a push, any other and 1 or 0 for a build with
 -- or without the rank index; a last word alone is none. Two words are an answer. Assumes nothing.
-use Rattle.std.specs.Prelude.{List, [], ◌∷◌, cond, ℕ, ◌/◌, eqb, leb, ltb, length}
+use Rattle.elias_fano_model.specs.declared.Ended.{Ended}
+use Rattle.errors.specs.declared.Refusal.{Refusal}
+use Rattle.std.specs.Prelude.{List, [], ◌∷◌, cond, ℕ, ◌/◌, eqb, leb, ltb, length, Ok, Err, Result}
 use Rattle.std.proofs.lemmas.List.Edits.{sets}
 use Rattle.errors.specs.Answer.{Answer, value, none, done, refused}
 use Rattle.errors.specs.Refusal.{number_of}
@@ -9,8 +11,6 @@ use Rattle.elias_fano.specs.declared.builder.Builder.{Builder}
 use Rattle.elias_fano.specs.Made.{Made, nobody}
 use Rattle.elias_fano_model.specs.Model.{Call, push, build, book}
 use Rattle.elias_fano_model.specs.Demand3.{end_from}
-use Rattle.elias_fano_model.specs.declared.Ran.{Ran}
-use Rattle.elias_fano_model.specs.declared.Ran.TheVariants as ran
 use Rattle.elias_fano_model.specs.declared.Reply.{Reply}
 use Rattle.elias_fano_model.specs.declared.Reply.TheVariants as reply
 
@@ -50,9 +50,9 @@ pub data End : Type 0 where
   ended : Builder → ℕ → End
   unbegun : ℕ → End
 
-abbrev pub of_ran : Ran → End
-of_ran (ran.Done e) = ended e.builder e.count
-of_ran (ran.Refused e) = unbegun (number_of e)
+abbrev pub of_ran : Result Ended Refusal → End
+of_ran (Ok e) = ended e.builder e.count
+of_ran (Err e) = unbegun (number_of e)
 
 -- what a run leaves: its end, the words of the record and those of the answers
 pub record Left : Type 0 where

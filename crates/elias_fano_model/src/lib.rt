@@ -7,8 +7,8 @@ ghost use Rattle.elias_fano_model.specs.Demand3.{step_of, closes};
 ghost use Rattle.elias_fano_model.specs.Run.{call_of, kind_of, value_of, of_reply, of_ran, ended, left, run_of};
 ghost use Rattle.elias_fano_model.specs.Going.{filed_at, went_on};
 
-use elias_fano::builder::{Builder, Built, Pushed, build, new, push};
-use errors::{Refusal, number};
+use elias_fano::builder::{Builder, build, new, push};
+use errors::Refusal;
 
 // The answer of a call.
 #[derive(Clone, Copy)]
@@ -32,37 +32,30 @@ pub struct Ended {
     pub count: usize,
 }
 
-// The end of a run, or why it did not begin.
-#[derive(Clone, Copy)]
-pub enum Ran {
-    Done(Ended),
-    Refused(Refusal),
-}
-
-fn pushed(b: Builder, p: Pushed) -> Turn
+fn pushed(b: Builder, p: Result<Builder, Refusal>) -> Turn
     ensures { (w : List ℕ) → made (of_reply result.reply) result.builder w ≡ of_pushed b p w }
 {
     match p {
-        Pushed::Accepted(next) => Turn {
+        Ok(next) => Turn {
             builder: next,
             reply: Reply::Done,
         },
-        Pushed::Refused(e) => Turn {
+        Err(e) => Turn {
             builder: b,
             reply: Reply::Refused(e),
         },
     }
 }
 
-fn built(b: Builder, p: Built) -> Turn
+fn built(b: Builder, p: Result<usize, Refusal>) -> Turn
     ensures { (w : List ℕ) → made (of_reply result.reply) result.builder w ≡ of_built b p w }
 {
     match p {
-        Built::Words(k) => Turn {
+        Ok(k) => Turn {
             builder: b,
             reply: Reply::Value(k),
         },
-        Built::Refused(e) => Turn {
+        Err(e) => Turn {
             builder: b,
             reply: Reply::Refused(e),
         },
@@ -106,7 +99,7 @@ fn value_of(r: Reply) -> u64
     match r {
         Reply::Done => 0,
         Reply::Value(k) => k as u64,
-        Reply::Refused(e) => number(e) as u64,
+        Reply::Refused(e) => u64::from(e),
     }
 }
 
@@ -149,14 +142,12 @@ pub fn run(
     calls: &[u64],
     buffer: &mut [u64],
     answers: &mut [u64],
-) -> Ran
+) -> Result<Ended, Refusal>
     ensures { left (of_ran result) buffer.new answers.new ≡ run_of universe num_vals calls.now buffer.old answers.old }
 {
     if answers.len() / 2 <= calls.len() / 2 {
-        return Ran::Refused(Refusal::ShortBuffer);
+        return Err(Refusal::ShortBuffer);
     }
-    match new(universe, num_vals, &mut *buffer) {
-        Pushed::Accepted(b) => Ran::Done(perform(b, calls, &mut *buffer, &mut *answers)),
-        Pushed::Refused(e) => Ran::Refused(e),
-    }
+    let b = new(universe, num_vals, &mut *buffer)?;
+    Ok(perform(b, calls, &mut *buffer, &mut *answers))
 }

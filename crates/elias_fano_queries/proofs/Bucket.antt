@@ -1,4 +1,5 @@
 -- Rank by the high bits: the zero that ends a bucket, the ones before it, and where a value's neighbours stand. Assumes nothing.
+use Rattle.std.specs.Prelude.{Some}
 use mathlib.Core.Path.{◌≡◌, refl, sym, ap, ◌∙◌, subst}
 use mathlib.Core.List.{List}
 use mathlib.Core.Bool.{true, false}
@@ -10,7 +11,6 @@ use lib.ListN.{length, get_or}
 use lib.Pow.{shr_mono}
 use Rattle.broadword.specs.Bits.{count}
 use Rattle.broadword.specs.Places.{select}
-use Rattle.broadword.specs.declared.Found.TheVariants.{At}
 use Rattle.broadword.proofs.Count.{count_mono}
 use Rattle.broadword.proofs.Find.{Selected, selected, select_at}
 use Rattle.bit_words.specs.Vector.{bit_at, bit_over}
@@ -27,7 +27,7 @@ use Rattle.elias_fano_words.proofs.Lengths.{all_bits, ones_are}
 use Rattle.elias_fano_queries.proofs.Below as below-law
 use Rattle.elias_fano_queries.proofs.Upper as upper
 
-at_inj : (a b : ℕ) → At a ≡ At b → a ≡ b
+at_inj : (a b : ℕ) → Some a ≡ Some b → a ≡ b
 at_inj a b e = cc
 
 -- a zero of the words is a bit that is 0
@@ -106,7 +106,7 @@ module _ (u n : ℕ) (T : List ℕ) (r : rising u 0 T ≡ true) (few : length T 
 
   -- ---- the zero with the number h ends the values whose high bits are at most h
 
-  module _ (h x : ℕ) (e : select (bit_over false W) H h ≡ At x) where
+  module _ (h x : ℕ) (e : select (bit_over false W) H h ≡ Some x) where
     zero_at : Selected (bit_over false W) H h x
     zero_at = selected (bit_over false W) H h x e
 

@@ -1,5 +1,6 @@
 -- The ones next to a place of the high bits that k ones stand before: that of the value with the number k - 1, and that of the value with the
 -- number k. Assumes nothing.
+use Rattle.std.specs.Prelude.{Some}
 use mathlib.Core.Path.{◌≡◌, refl, sym, ap, ◌∙◌}
 use mathlib.Core.List.{List}
 use mathlib.Core.Bool.{true}
@@ -9,8 +10,7 @@ use native.Mathlib.Numerals.{add-one}
 use native.Mathlib.Omega.{arith}
 use lib.ListN.{length}
 use Rattle.broadword.specs.Bits.{count}
-use Rattle.broadword.specs.Places.{last, select, SelectInByte}
-use Rattle.broadword.specs.declared.Found.TheVariants.{At}
+use Rattle.broadword.specs.Places.{last, select}
 use Rattle.broadword.proofs.Count.{count_mono, count_zero, count_add}
 use Rattle.broadword.proofs.Find.{last_is, select_at, selected}
 use Rattle.bit_words.specs.Inner.{Findable}
@@ -30,7 +30,7 @@ use Rattle.elias_fano_queries.proofs.Opened as opened
 -- ---- the last one before a place
 
 module _ (f : ℕ → ℕ) (bits : (j : ℕ) → f j ≤ 1) (x k : ℕ) (e : count f x ≡ k) where
-  last-number : (y : ℕ) → last f x ≡ At y → count f y + 1 ≡ k
+  last-number : (y : ℕ) → last f x ≡ Some y → count f y + 1 ≡ k
   last-number y ey =
       let r = last_is f x y ey in
       let d = le_dest r.within in
@@ -78,7 +78,7 @@ module _ (i : List ℕ) (p : Parts) (k x : ℕ) (b : Behind i p k x) where
       let e = b.upto in
       (omega arith, omega arith)
 
-  pub before_is : 0 < k → (y : ℕ) → last (bit_at W) x ≡ At y → OneAt i p (k - 1) y
+  pub before_is : 0 < k → (y : ℕ) → last (bit_at W) x ≡ Some y → OneAt i p (k - 1) y
   before_is h y ey =
       let o = b.opened in
       let w = last_is (bit_at W) x y ey in
@@ -104,15 +104,15 @@ module _ (i : List ℕ) (p : Parts) (k x : ℕ) (b : Behind i p k x) where
         let c = selecting.high_len_is i o.ok p o.parts in
         ap (λ (y : ℕ). y - 6) a ∙ (let d : (y : ℕ) → 6 + y - 6 ≡ y = λ y. omega arith in d _) ∙ ap words_for (sym c)
 
-    pub findable : (t : List ℕ) → SelectInByte t → Findable W (p.low_at - 6) x t
-    findable t rule =
+    pub findable : Findable W (p.low_at - 6) x
+    findable =
         let o = b.opened in
         let a = opened.part_length i o.ok p o.parts in
         let c = opened.part_room i o.ok p o.parts in
         let d = opened.high_small i o.ok p o.parts in
         let e = words_are in
         let g = here in
-        record { start = omega arith; room = omega arith; few = omega arith; rule = rule }
+        record { start = omega arith; room = omega arith; few = omega arith }
 
     over_before : count (bit_over true W) x ≡ k
     over_before = ap (λ (f : ℕ → ℕ). count f x) over_one ∙ b.before
@@ -126,7 +126,7 @@ module _ (i : List ℕ) (p : Parts) (k x : ℕ) (b : Behind i p k x) where
         let a = over_before in
         omega arith
 
-    pub from_is : (y : ℕ) → select (bit_over true W) ((p.low_at - 6) * 64) (count (bit_over true W) x) ≡ At y → OneAt i p k y
+    pub from_is : (y : ℕ) → select (bit_over true W) ((p.low_at - 6) * 64) (count (bit_over true W) x) ≡ Some y → OneAt i p k y
     from_is y e =
         let o = b.opened in
         let q = selecting.place_is i o.ok p o.parts k h in

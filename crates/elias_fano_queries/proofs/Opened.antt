@@ -1,4 +1,5 @@
 -- What an opened image gives a question: its list in order, the index over the zeros, and the laws of the high bits in terms of its parts. Assumes nothing.
+use Rattle.std.specs.Prelude.{Some}
 use mathlib.Core.Path.{◌≡◌, refl, sym, ap, ap₂, ◌∙◌, subst}
 use mathlib.Core.List.{List, []}
 use mathlib.Core.Bool.{Bool, true, false, ◌&&◌, cond}
@@ -11,8 +12,7 @@ use lib.ListN.{length, get_or, take, drop, length-drop}
 use lib.Seq.{take_all, length-take-le}
 use Rattle.broadword.specs.Bits.{bit, count}
 use Rattle.broadword.specs.Fields.{word}
-use Rattle.broadword.specs.Places.{select, SelectInByte}
-use Rattle.broadword.specs.declared.Found.TheVariants.{At}
+use Rattle.broadword.specs.Places.{select}
 use Rattle.bit_words.specs.Vector.{bit_at, bit_over}
 use Rattle.bit_words.proofs.Runs.{bit_over_le}
 use Rattle.darray.specs.Select.{Indexed}
@@ -76,16 +76,16 @@ module _ (i : List ℕ) (ok : accepted i ≡ true) where
   unfolding parts_by
   within = law _ (bucket.within_high u n T rises few)
 
-  zero_of : Law (λ p. (h x : ℕ) → select (bit_over false (high_part i p)) p.high_len h ≡ At x → (h ≤ x) × (x - h ≡ below ((h + 1) * 2 ^ p.low_len) T))
+  zero_of : Law (λ p. (h x : ℕ) → select (bit_over false (high_part i p)) p.high_len h ≡ Some x → (h ≤ x) × (x - h ≡ below ((h + 1) * 2 ^ p.low_len) T))
   unfolding parts_by
   zero_of = law _ (λ h x e.
       let d = ap (λ (W : List ℕ). select (bit_over false W) (high_len u n) h) (sym high_is) ∙ e in
       (bucket.after-zeros u n T rises few h x d, bucket.zero_rank u n T rises few h x d))
 
-  pub after-zeros : Law (λ p. (h x : ℕ) → select (bit_over false (high_part i p)) p.high_len h ≡ At x → h ≤ x)
+  pub after-zeros : Law (λ p. (h x : ℕ) → select (bit_over false (high_part i p)) p.high_len h ≡ Some x → h ≤ x)
   after-zeros p e h x d = (zero_of p e h x d).0
 
-  pub zero_rank : Law (λ p. (h x : ℕ) → select (bit_over false (high_part i p)) p.high_len h ≡ At x → x - h ≡ below ((h + 1) * 2 ^ p.low_len) T)
+  pub zero_rank : Law (λ p. (h x : ℕ) → select (bit_over false (high_part i p)) p.high_len h ≡ Some x → x - h ≡ below ((h + 1) * 2 ^ p.low_len) T)
   zero_rank p e h x d = (zero_of p e h x d).1
 
   pub upto_high : Law (λ p. (v k : ℕ) → below v T ≤ suc k → suc k ≤ below ((v / 2 ^ p.low_len + 1) * 2 ^ p.low_len) T → get_or T k 0 / 2 ^ p.low_len ≤ v / 2 ^ p.low_len)
@@ -139,8 +139,8 @@ module _ (i : List ℕ) (ok : accepted i ≡ true) where
   pub zero_in : (p : Parts) → p ≡ parts_of i → (h : ℕ) → h ≤ p.universe / 2 ^ p.low_len → h < p.high_len - p.num_pushed
   zero_in p e h g = lt_of_le_of_lt g (many_zeros p e)
 
-  pub indexed_zeros : (p : Parts) → p ≡ parts_of i → p.rank ≡ true → (t : List ℕ) → SelectInByte t → Indexed (high_part i p) p.high_len false (take (length i - p.zeros_at) (drop p.zeros_at i)) (p.high_len - p.num_pushed) t
-  indexed_zeros p e c t rule =
+  pub indexed_zeros : (p : Parts) → p ≡ parts_of i → p.rank ≡ true → Indexed (high_part i p) p.high_len false (take (length i - p.zeros_at) (drop p.zeros_at i)) (p.high_len - p.num_pushed)
+  indexed_zeros p e c =
       let f = found i ok in
       let v = standing.indexable i p e f.head (images.is_fit i ok).small f.bits in
       record {
@@ -148,7 +148,6 @@ module _ (i : List ℕ) (ok : accepted i ≡ true) where
         short = v.1;
         is = standing.zeros_part i p e f.head ∙ f.indexed.zeros ∙ ap (λ (b : Bool). cond b (index_words (positions false (high_in i) (high_of i))) []) (sym (rank_is p e) ∙ c) ∙ ap₂ (λ (W : List ℕ) (k : ℕ). index_words (positions false W k)) (sym (standing.high_part_lem i p e f.head)) (sym (selecting.high_len_is i ok p e));
         number = zeros-count p e ∙ sym (length-places (bit_over false (high_part i p)) (bit_over_le false (high_part i p)) p.high_len);
-        rule = rule;
       }
 
 -- ---- a bit

@@ -19,14 +19,10 @@ use Rattle.elias_fano.specs.declared.image.Parts.{Parts}
 use Rattle.elias_fano.specs.Accept.{universe, times}
 use Rattle.elias_fano.specs.Ask.{below}
 use Rattle.elias_fano.proofs.Selecting as selecting
-use Rattle.elias_fano_queries.specs.Demands.{IsOpen}
 use Rattle.elias_fano.specs.Opening.{Open, high_part}
 use Rattle.elias_fano_queries.proofs.Below as below-law
 use Rattle.elias_fano_queries.proofs.Opened as opened
 use Rattle.elias_fano_queries.proofs.Upper as upper
-
-pub is_open : (i : List ℕ) (p : Parts) (t : List ℕ) → Open i p t → IsOpen i p
-is_open i p t o = record { ok = o.ok; parts = o.parts }
 
 -- two bits
 and_bits : (a b : ℕ) → a ≤ 1 → b ≤ 1 → bit_and a b ≡ min a b
@@ -47,7 +43,7 @@ flag_zero : (t : Bool) → flag t ≡ 0 → t ≡ false
 flag_zero true e = absurd (omega arith)
 flag_zero false e = refl
 
-module _ (i : List ℕ) (p : Parts) (o : IsOpen i p) (v : ℕ) where
+module _ (i : List ℕ) (p : Parts) (o : Open i p) (v : ℕ) where
   abbrev T : List ℕ
   T = times i
 

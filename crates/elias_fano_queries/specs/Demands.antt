@@ -4,17 +4,11 @@ use Rattle.broadword.specs.Bits.{count}
 use Rattle.broadword.specs.Fields.{word}
 use Rattle.bit_words.specs.Vector.{bit_at}
 use Rattle.elias_fano.specs.declared.image.Parts.{Parts}
-use Rattle.elias_fano.specs.Accept.{accepted, parts_of}
 use Rattle.elias_fano.specs.Opening.{Open, high_part}
 
--- an accepted image with its parts
-pub record IsOpen (i : List ℕ) (p : Parts) : Type 0 where
-  pub ok : accepted i ≡ true
-  pub parts : p ≡ parts_of i
-
--- one with a rank index
-pub record Rankable (i : List ℕ) (p : Parts) (table : List ℕ) : Type 0 where
-  pub opened : Open i p table
+-- an opened image with a rank index
+pub record Rankable (i : List ℕ) (p : Parts) : Type 0 where
+  pub opened : Open i p
   pub ranked : p.rank ≡ true
 
 -- the 17 bits before a place are ones
@@ -23,6 +17,6 @@ crowded ws x = ltb 16 x && eqb (word 1 (λ j. bit_at ws (x - 17 + j)) 64 % 2 ^ 1
 
 -- as many ones as values before the one with the number k stand before a place of the high bits
 pub record Behind (i : List ℕ) (p : Parts) (k x : ℕ) : Type 0 where
-  pub opened : IsOpen i p
+  pub opened : Open i p
   pub before : count (bit_at (high_part i p)) x ≡ k
   pub upto : x ≤ p.high_len

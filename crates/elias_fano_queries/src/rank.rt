@@ -4,17 +4,17 @@
 // bits ends its bucket, the values with the same high bits, and the low bits of these alone are compared: one after the other, back
 // from the last, or by halving if there are more than 16.
 ghost use Rattle.std.specs.Prelude.{◌≡◌, ◌+◌, ◌*◌, ◌/◌, ◌%◌, ◌^◌, ◌≤◌, ◌<◌, leb, get_or};
+ghost use Rattle.errors.specs.Answer.{of_optional};
 ghost use Rattle.broadword.specs.Fields.{flag};
 ghost use Rattle.bit_words.specs.Vector.{bit_at};
-ghost use Rattle.elias_fano.specs.Accept.{times, of_number};
+ghost use Rattle.elias_fano.specs.Accept.{times};
 ghost use Rattle.elias_fano.specs.Ask.{Rank, below, asked, query};
 ghost use Rattle.elias_fano.specs.Opening.{Open, high_part};
-ghost use Rattle.elias_fano_queries.specs.Demands.{IsOpen, Rankable, crowded};
+ghost use Rattle.elias_fano_queries.specs.Demands.{Rankable, crowded};
 
 use bit_words::{WORD_LEN, low_bits, window};
-use broadword::select_in_byte_table;
 use darray::select::select_within;
-use elias_fano::image::{Number, Opened, Parts, open};
+use elias_fano::image::{Parts, open};
 use elias_fano_words::check::low_at;
 use errors::Refusal;
 
@@ -22,8 +22,8 @@ use errors::Refusal;
 const LINEAR_WALK_THRESHOLD: usize = 16;
 
 // How many values have high bits up to h: so many ones stand before the zero with the number h.
-fn count_upto(image: &[u64], p: Parts, h: usize, table: &[u8; 2048]) -> usize
-    requires { Rankable image.now p table.now × (h ≤ p.universe / 2 ^ p.low_len) }
+fn count_upto(image: &[u64], p: Parts, h: usize) -> usize
+    requires { Rankable image.now p × (h ≤ p.universe / 2 ^ p.low_len) }
     ensures { result ≡ below ((h + 1) * 2 ^ p.low_len) (times image.now) }
 {
     let start = p.low_at;
@@ -35,7 +35,6 @@ fn count_upto(image: &[u64], p: Parts, h: usize, table: &[u8; 2048]) -> usize
         false,
         &image[zeros_at..],
         zeros,
-        table,
         h,
     );
     place - h
@@ -43,7 +42,7 @@ fn count_upto(image: &[u64], p: Parts, h: usize, table: &[u8; 2048]) -> usize
 
 // The high bit at a place.
 fn high_bit(image: &[u64], p: Parts, place: usize) -> u64
-    requires { IsOpen image.now p × (place < p.high_len) }
+    requires { Open image.now p × (place < p.high_len) }
     ensures { result ≡ bit_at (high_part image.now p) place }
 {
     let start = p.low_at;
@@ -54,7 +53,7 @@ fn high_bit(image: &[u64], p: Parts, place: usize) -> u64
 
 // The low bits of the value with the number k.
 fn low_of(image: &[u64], p: Parts, k: usize) -> u64
-    requires { IsOpen image.now p × (k < p.num_pushed) }
+    requires { Open image.now p × (k < p.num_pushed) }
     ensures { result ≡ get_or (times image.now) k 0 % 2 ^ p.low_len }
 {
     let start = p.low_at;
@@ -64,7 +63,7 @@ fn low_of(image: &[u64], p: Parts, k: usize) -> u64
 
 // How many values are below val, walking back from the end of its bucket: as long as the one before is there and its low bits are not below.
 fn walk_back(image: &[u64], p: Parts, val: u64, end: usize) -> usize
-    requires { IsOpen image.now p × (val < p.universe) × (end ≡ below ((val / 2 ^ p.low_len + 1) * 2 ^ p.low_len) (times image.now)) }
+    requires { Open image.now p × (val < p.universe) × (end ≡ below ((val / 2 ^ p.low_len + 1) * 2 ^ p.low_len) (times image.now)) }
     ensures { result ≡ below val (times image.now) }
 {
     let h = (val >> p.low_len) as usize;
@@ -84,7 +83,7 @@ fn walk_back(image: &[u64], p: Parts, val: u64, end: usize) -> usize
 
 // The same by halving, between the ends of the bucket.
 fn halve_bucket(image: &[u64], p: Parts, val: u64, first: usize, end: usize) -> usize
-    requires { IsOpen image.now p × (first ≡ below (val / 2 ^ p.low_len * 2 ^ p.low_len) (times image.now)) × (end ≡ below ((val / 2 ^ p.low_len + 1) * 2 ^ p.low_len) (times image.now)) }
+    requires { Open image.now p × (first ≡ below (val / 2 ^ p.low_len * 2 ^ p.low_len) (times image.now)) × (end ≡ below ((val / 2 ^ p.low_len + 1) * 2 ^ p.low_len) (times image.now)) }
     ensures { result ≡ below val (times image.now) }
 {
     let low = low_bits(val, p.low_len);
@@ -102,19 +101,19 @@ fn halve_bucket(image: &[u64], p: Parts, val: u64, first: usize, end: usize) -> 
 }
 
 // Where the bucket with the high bits h begins: how many values have lesser ones.
-fn count_before(image: &[u64], p: Parts, h: usize, table: &[u8; 2048]) -> usize
-    requires { Rankable image.now p table.now × (h ≤ p.universe / 2 ^ p.low_len) }
+fn count_before(image: &[u64], p: Parts, h: usize) -> usize
+    requires { Rankable image.now p × (h ≤ p.universe / 2 ^ p.low_len) }
     ensures { result ≡ below (h * 2 ^ p.low_len) (times image.now) }
 {
     if h == 0 {
         return 0;
     }
-    count_upto(image, p, h - 1, table)
+    count_upto(image, p, h - 1)
 }
 
 // Whether more than 16 ones, and no zero, stand before the place of the high bits.
 fn is_crowded(image: &[u64], p: Parts, place: usize) -> bool
-    requires { IsOpen image.now p × (place < p.high_len) }
+    requires { Open image.now p × (place < p.high_len) }
     ensures { result ≡ crowded (high_part image.now p) place }
 {
     if place <= LINEAR_WALK_THRESHOLD {
@@ -130,13 +129,13 @@ fn is_crowded(image: &[u64], p: Parts, place: usize) -> bool
 }
 
 // The same, by halving if the bucket may be long.
-fn rank_from(image: &[u64], p: Parts, val: u64, end: usize, table: &[u8; 2048]) -> usize
-    requires { Rankable image.now p table.now × (val < p.universe) × (end ≡ below ((val / 2 ^ p.low_len + 1) * 2 ^ p.low_len) (times image.now)) }
+fn rank_from(image: &[u64], p: Parts, val: u64, end: usize) -> usize
+    requires { Rankable image.now p × (val < p.universe) × (end ≡ below ((val / 2 ^ p.low_len + 1) * 2 ^ p.low_len) (times image.now)) }
     ensures { result ≡ below val (times image.now) }
 {
     let h = (val >> p.low_len) as usize;
     if is_crowded(image, p, h + end) {
-        let first = count_before(image, p, h, table);
+        let first = count_before(image, p, h);
         return halve_bucket(image, p, val, first, end);
     }
     walk_back(image, p, val, end)
@@ -144,7 +143,7 @@ fn rank_from(image: &[u64], p: Parts, val: u64, end: usize, table: &[u8; 2048]) 
 
 // 1 if the low bits of the value with the number k are not below, else 0.
 fn from_low(image: &[u64], p: Parts, k: usize, low: u64) -> u64
-    requires { IsOpen image.now p × (k < p.num_pushed) }
+    requires { Open image.now p × (k < p.num_pushed) }
     ensures { result ≡ flag (leb low (get_or (times image.now) k 0 % 2 ^ p.low_len)) }
 {
     if low <= low_of(image, p, k) { 1 } else { 0 }
@@ -152,12 +151,12 @@ fn from_low(image: &[u64], p: Parts, k: usize, low: u64) -> u64
 
 // How many values are below val, which is below the universe. Few buckets hold two values: where one of the two bits before the bucket's end is not
 // set, the last value alone decides, and is compared without a branch, whether or not it is in the bucket.
-pub fn rank_within(image: &[u64], p: Parts, val: u64, table: &[u8; 2048]) -> usize
-    requires { Rankable image.now p table.now × (val < p.universe) }
+pub fn rank_within(image: &[u64], p: Parts, val: u64) -> usize
+    requires { Rankable image.now p × (val < p.universe) }
     ensures { result ≡ below val (times image.now) }
 {
     let h = (val >> p.low_len) as usize;
-    let end = count_upto(image, p, h, table);
+    let end = count_upto(image, p, h);
     if end >= 2 {
         let last = high_bit(image, p, h + (end - 1));
         if last & high_bit(image, p, h + (end - 2)) == 0 {
@@ -165,35 +164,30 @@ pub fn rank_within(image: &[u64], p: Parts, val: u64, table: &[u8; 2048]) -> usi
             return end - (last & from_low(image, p, end - 1, low)) as usize;
         }
     }
-    rank_from(image, p, val, end, table)
+    rank_from(image, p, val, end)
 }
 
 // How many values are below val, of an opened image: constant time but for the words between every 32nd zero and a bucket's halving.
-pub fn rank_opened(image: &[u64], p: Parts, val: u64, table: &[u8; 2048]) -> Number
-    requires { Open image.now p table.now }
-    ensures { of_number result ≡ asked image.now (Rank val) }
+pub fn rank_opened(image: &[u64], p: Parts, val: u64) -> Result<Option<usize>, Refusal>
+    requires { Open image.now p }
+    ensures { of_optional result ≡ asked image.now (Rank val) }
 {
     if val > p.universe {
-        return Number::Nothing;
+        return Ok(None);
     }
     if val == p.universe {
-        return Number::Is(p.num_pushed as usize);
+        return Ok(Some(p.num_pushed as usize));
     }
     if !p.rank {
-        return Number::Refused(Refusal::NoRankIndex);
+        return Err(Refusal::NoRankIndex);
     }
-    Number::Is(rank_within(image, p, val, table))
+    Ok(Some(rank_within(image, p, val)))
 }
 
 // How many values are below val.
-pub fn rank(image: &[u64], val: u64) -> Number
-    ensures { of_number result ≡ query image.now (Rank val) }
+pub fn rank(image: &[u64], val: u64) -> Result<Option<usize>, Refusal>
+    ensures { of_optional result ≡ query image.now (Rank val) }
 {
-    match open(image) {
-        Opened::Image(p) => {
-            let table = select_in_byte_table();
-            rank_opened(image, p, val, &table)
-        }
-        Opened::Refused(e) => Number::Refused(e),
-    }
+    let p = open(image)?;
+    rank_opened(image, p, val)
 }

@@ -1,4 +1,5 @@
 -- The halving of a search: by the high bits alone, and by whole values. f is a run of bits, T the list of times. Assumes nothing.
+use Rattle.std.specs.Prelude.{Some}
 use mathlib.Core.Path.{◌≡◌, refl, sym, ap, ◌∙◌, subst, subst⁻¹, subst₂}
 use mathlib.Core.List.{List}
 use mathlib.Core.Bool.{Bool, true, false, cond}
@@ -13,7 +14,6 @@ use lib.Pow.{shr_mono}
 use Rattle.broadword.specs.Bits.{bit, count}
 use Rattle.broadword.specs.Fields.{word}
 use Rattle.broadword.specs.Places.{last, select}
-use Rattle.broadword.specs.declared.Found.TheVariants.{At}
 use Rattle.broadword.proofs.Count.{bit_le, count_mono, count_add, count_le}
 use Rattle.broadword.proofs.Find.{select_at, selected, last_is}
 use Rattle.bit_words.specs.Vector.{bit_at, bit_over}
@@ -41,7 +41,7 @@ chosen t s x y r e h = h ∙ sym (ap (λ (b : Bool). cond b x y) e)
 
 module _ (f : ℕ → ℕ) (bits : (i : ℕ) → f i ≤ 1) (len : ℕ) where
   -- a one stands at its number or later
-  pub past-number : (k x : ℕ) → select f len k ≡ At x → k ≤ x
+  pub past-number : (k x : ℕ) → select f len k ≡ Some x → k ≤ x
   past-number k x e = subst (λ (n : ℕ). n ≤ x) (selected f len k x e).before (count_le f x bits)
 
   -- so many places more have so many ones more at most
@@ -52,7 +52,7 @@ module _ (f : ℕ → ℕ) (bits : (i : ℕ) → f i ≤ 1) (len : ℕ) where
       omega (arith, e, count_le (λ i. f (x + i)) (y - x) (λ i. bits (x + i)))
 
   -- the zeros before a one do not get fewer
-  apart : (j k x y : ℕ) → j ≤ k → select f len j ≡ At x → select f len k ≡ At y → x + k ≤ y + j
+  apart : (j k x y : ℕ) → j ≤ k → select f len j ≡ Some x → select f len k ≡ Some y → x + k ≤ y + j
   apart j k x y h e g = go (dec_le x y)
     where
       cx : count f x ≡ j
@@ -68,7 +68,7 @@ module _ (f : ℕ → ℕ) (bits : (i : ℕ) → f i ≤ 1) (len : ℕ) where
           omega (arith, cx, cy, count_suc f y, (selected f len k y g).one)
 
   -- the ones before one that stands right after a zero have fewer zeros before them
-  before_zero : (j k x y : ℕ) → select f len j ≡ At x → select f len k ≡ At y → 0 < y → f (y - 1) ≡ 0 → j < k → x + k < y + j
+  before_zero : (j k x y : ℕ) → select f len j ≡ Some x → select f len k ≡ Some y → 0 < y → f (y - 1) ≡ 0 → j < k → x + k < y + j
   before_zero j k x y e g some none l =
       let ex = (selected f len j x e).before in
       let ey = (selected f len k y g).before in
@@ -86,7 +86,7 @@ module _ (f : ℕ → ℕ) (bits : (i : ℕ) → f i ≤ 1) (len : ℕ) where
       omega (arith, ap (count f) e, count_suc f (x + d), full x d (λ j l. g j (omega arith)), g d (omega arith))
 
   -- the first of a run of ones, d places before one of them
-  run_first : (k y d : ℕ) → select f len k ≡ At y → d ≤ y → ((j : ℕ) → j < d → f (y - d + j) ≡ 1) → select f len (k - d) ≡ At (y - d)
+  run_first : (k y d : ℕ) → select f len k ≡ Some y → d ≤ y → ((j : ℕ) → j < d → f (y - d + j) ≡ 1) → select f len (k - d) ≡ Some (y - d)
   run_first k y d e h g =
       let s = selected f len k y e in
       let q : y - d + d ≡ y = omega arith in
@@ -110,13 +110,13 @@ module _ (f : ℕ → ℕ) (bits : (i : ℕ) → f i ≤ 1) (len : ℕ) where
       more = q.more;
     }
       where
-        go : (j x : ℕ) → j < s.number → a ≤ j → select f len j ≡ At x → Dec (j < r) → x < j + h
+        go : (j x : ℕ) → j < s.number → a ≤ j → select f len j ≡ Some x → Dec (j < r) → x < j + h
         go j x l m g (yes n) = p.less j x n m g
         go j x l m g (no n) = q.start.less j x l (omega (arith, lt_of_not-le n)) g
 
     -- a run of ones, d of them before that with the number k
-    module _ (k y d : ℕ) (g : select f len k ≡ At y) (run : OnesBefore f y d) (l : a + d < k) (kb : k < b) where
-      first : select f len (k - d) ≡ At (y - d)
+    module _ (k y d : ℕ) (g : select f len k ≡ Some y) (run : OnesBefore f y d) (l : a + d < k) (kb : k < b) where
+      first : select f len (k - d) ≡ Some (y - d)
       first = run_first k y d g (le_of_lt run.upto) run.ones
 
       -- it has as many zeros before it as wanted
@@ -134,7 +134,7 @@ module _ (f : ℕ → ℕ) (bits : (i : ℕ) → f i ≤ 1) (len : ℕ) where
       }
 
       -- it has more
-      pub high_until : (x : ℕ) → select f len a ≡ At x → h < y - k → HighSection f len h a b (record { number = a; place = x; end = k - d })
+      pub high_until : (x : ℕ) → select f len a ≡ Some x → h < y - k → HighSection f len h a b (record { number = a; place = x; end = k - d })
       high_until x e m = record {
         start = high_ends;
         at = e;
@@ -155,11 +155,11 @@ module _ (f : ℕ → ℕ) (bits : (i : ℕ) → f i ≤ 1) (len : ℕ) where
       pub high_part_lem : Part lo hi
       high_part_lem = subst₂ Part (sym el) (sym eh) (either_way t)
 
-      module _ (y : ℕ) (g : select f len k ≡ At y) where
+      module _ (y : ℕ) (g : select f len k ≡ Some y) where
         holds : (c : Bool) → (c ≡ true → y - k < h) → (r : ℕ) → HighStart f len h (cond c k a) (cond c b (k + 1)) r → HighStart f len h a b r
         holds true l r s = record { from = omega (arith, s.from); upto = s.upto; less = λ j x m n e. go j x m e (dec_lt j k) }
           where
-            go : (j x : ℕ) → j < r → select f len j ≡ At x → Dec (j < k) → x < j + h
+            go : (j x : ℕ) → j < r → select f len j ≡ Some x → Dec (j < k) → x < j + h
             go j x m e (yes q) = omega (arith, apart j k x y (omega arith) e g, l refl, past-number k y g)
             go j x m e (no q) = s.less j x m (omega (arith, lt_of_not-le q)) e
         holds false l r s = record { from = s.from; upto = omega (arith, s.upto); less = s.less }
@@ -168,7 +168,7 @@ module _ (f : ℕ → ℕ) (bits : (i : ℕ) → f i ≤ 1) (len : ℕ) where
         high_holds e r s = holds t (λ q. ltb-true (y - k) h (sym e ∙ q)) r (subst₂ (λ (l u : ℕ). HighStart f len h l u r) el eh s)
 
 -- the ones after the last zero of the 64 bits before a place
-pub after_zero : (ws : List ℕ) (end w z : ℕ) → 64 ≤ end → end ≤ length ws * 64 → w ≡ word 1 (λ i. bit_at (take (length ws) ws) (end - 64 + i)) 64 → last (bit (2 ^ 64 - 1 - w)) 64 ≡ At z → (z < 64) × OnesBefore (bit_over true ws) end (63 - z)
+pub after_zero : (ws : List ℕ) (end w z : ℕ) → 64 ≤ end → end ≤ length ws * 64 → w ≡ word 1 (λ i. bit_at (take (length ws) ws) (end - 64 + i)) 64 → last (bit (2 ^ 64 - 1 - w)) 64 ≡ Some z → (z < 64) × OnesBefore (bit_over true ws) end (63 - z)
 unfolding bit_over
 after_zero ws end w z h l e q =
     let r = last_is (bit (2 ^ 64 - 1 - w)) 64 z q in
@@ -243,7 +243,7 @@ module _ (i : List ℕ) (ok : accepted i ≡ true) (p : Parts) (ep : p ≡ parts
   }
     where
       -- the zeros before its one are the high bits of a value
-      zeros : (j : ℕ) → j < b → (x : ℕ) × (select (bit_over true (high_part i p)) p.high_len j ≡ At x) × (x ≡ j + get_or (times i) j 0 / 2 ^ p.low_len)
+      zeros : (j : ℕ) → j < b → (x : ℕ) × (select (bit_over true (high_part i p)) p.high_len j ≡ Some x) × (x ≡ j + get_or (times i) j 0 / 2 ^ p.low_len)
       zeros j m =
           let q : j < p.num_pushed = omega (arith, g.upto) in
           let w = selecting.place_is i ok p ep j q in

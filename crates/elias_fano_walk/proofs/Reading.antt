@@ -1,4 +1,5 @@
 -- Reading out: the words that are written grow by a value at each step, and are those of the definition in the end. Assumes nothing.
+use Rattle.std.specs.Prelude.{Err, Result}
 use mathlib.Core.Path.{◌≡◌, refl, sym, ap, ap₂, ◌∙◌}
 use mathlib.Core.List.{List, [], ◌∷◌, ◌++◌}
 use mathlib.Core.Bool.{Bool, true, false, cond}
@@ -12,8 +13,6 @@ use Rattle.errors.specs.Answer.{value, refused, leaves}
 use Rattle.errors.specs.Refusal.{number_of}
 use Rattle.errors.specs.declared.Refusal.{Refusal}
 use Rattle.elias_fano.specs.declared.image.Parts.{Parts}
-use Rattle.elias_fano.specs.declared.image.Opened.{Opened}
-use Rattle.elias_fano.specs.declared.image.Opened.TheVariants as opened
 use Rattle.elias_fano.specs.Accept.{times, accepted, parts_of, parts, unopened, of_opened, open_of}
 use Rattle.elias_fano.specs.Ask.{ReadFrom, ask, read_out, filled, read_from_of}
 use Rattle.elias_fano.proofs.Answers as answers
@@ -105,8 +104,8 @@ module _ (i : List ℕ) (k : ℕ) (d : List ℕ) where
   refused_not true n q e = let z : ◌≡◌ {A = ℕ} 0 1 = cc in absurd (omega arith)
   refused_not false n q e = refl
 
-  pub read_refused : (r : Opened) (x : Refusal) → of_opened r ≡ open_of i → r ≡ opened.Refused x → leaves (refused (number_of x)) d ≡ read_from_of i k d
+  pub read_refused : (x : ℕ) → unopened x ≡ open_of i → leaves (refused x) d ≡ read_from_of i k d
   unfolding read_from_of open_of
-  read_refused r x er e =
-      ap₂ leaves (answers.query_refused i r x (ReadFrom k (length d)) er e)
-      (sym (ap (λ (b : Bool). cond b (filled (times i) k d) d) (refused_not (accepted i) (number_of x) (parts_of i) (sym (ap of_opened e) ∙ er))))
+  read_refused x e =
+      ap₂ leaves (answers.query_refused i x (ReadFrom k (length d)) e)
+      (sym (ap (λ (b : Bool). cond b (filled (times i) k d) d) (refused_not (accepted i) x (parts_of i) e)))

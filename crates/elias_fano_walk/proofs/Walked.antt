@@ -1,4 +1,5 @@
 -- A walk over the values of an image: how it begins, what a step finds, and what it leaves. Assumes nothing.
+use Rattle.std.specs.Prelude.{Some, None}
 use mathlib.Core.Path.{◌≡◌, refl, sym, ap, ap₂, ◌∙◌, subst, subst⁻¹}
 use mathlib.Core.List.{List}
 use mathlib.Core.Bool.{true, false}
@@ -13,7 +14,6 @@ use lib.ListN.{length, get_or}
 use Rattle.errors.specs.Answer.{value, none}
 use Rattle.broadword.specs.Bits.{bit, count}
 use Rattle.broadword.specs.Places.{select}
-use Rattle.broadword.specs.declared.Found.TheVariants.{At, Nothing}
 use Rattle.broadword.proofs.Find.{Selected, selected}
 use Rattle.broadword.proofs.Lowest.{none_zero}
 use Rattle.bit_words.specs.Inner.{Skipped}
@@ -81,8 +81,8 @@ module _ (i : List ℕ) (ok : accepted i ≡ true) (p : Parts) (ep : p ≡ parts
   -- ---- a step
 
   module _ (k : ℕ) (h : k < p.num_pushed) where
-    none_not : select ones p.high_len k ≡ Nothing → ⊥
-    none_not s = selecting.some_place i ok p ep k h Nothing (sym s) refl
+    none_not : select ones p.high_len k ≡ None → ⊥
+    none_not s = selecting.some_place i ok p ep k h None (sym s) refl
 
     module _ (base rest : ℕ) (a : OnesAhead i p k base rest) where
       v : Valid (high_part i p) p.high_len
@@ -157,19 +157,19 @@ module _ (i : List ℕ) (ok : accepted i ≡ true) (p : Parts) (ep : p ≡ parts
             subst⁻¹ (OneAhead (high_part i p) p.high_len a.ones.from (a.ones.position / 64)) a.left
             (left_buf (high_part i p) p.high_len a.ones.position a.ones.from a.ones.buf fit v a.over.behind a.over.near a.over.rest (λ e. n (a.left ∙ e)))
 
-        pub some_lowest : select (bit rest) 64 0 ≡ Nothing → ⊥
+        pub some_lowest : select (bit rest) 64 0 ≡ None → ⊥
         some_lowest e = n (none_zero rest ahead.small e)
 
-        module _ (t : ℕ) (e : select (bit rest) 64 0 ≡ At t) where
+        module _ (t : ℕ) (e : select (bit rest) 64 0 ≡ Some t) where
           place_is : a.ones.position / 64 * 64 + t ≡ base + t
           place_is = ap (λ (y : ℕ). y + t) (sym a.stands)
 
-          lowest : (base + t < p.high_len) × (select ones p.high_len (count ones a.ones.from + 0) ≡ At (base + t)) × (rest / 2 ^ (t + 1) * 2 ^ (t + 1) ≡ rest_of (high_part i p) p.high_len (base + t) (base + t + 1))
+          lowest : (base + t < p.high_len) × (select ones p.high_len (count ones a.ones.from + 0) ≡ Some (base + t)) × (rest / 2 ^ (t + 1) * 2 ^ (t + 1) ≡ rest_of (high_part i p) p.high_len (base + t) (base + t + 1))
           lowest =
-              subst (λ (y : ℕ). (y < p.high_len) × (select ones p.high_len (count ones a.ones.from + 0) ≡ At y) × (rest / 2 ^ (t + 1) * 2 ^ (t + 1) ≡ rest_of (high_part i p) p.high_len y (y + 1))) place_is
+              subst (λ (y : ℕ). (y < p.high_len) × (select ones p.high_len (count ones a.ones.from + 0) ≡ Some y) × (rest / 2 ^ (t + 1) * 2 ^ (t + 1) ≡ rest_of (high_part i p) p.high_len y (y + 1))) place_is
               (ahead.place t e)
 
-          next : select ones p.high_len k ≡ At (base + t)
+          next : select ones p.high_len k ≡ Some (base + t)
           next = ap (select ones p.high_len) (sym from_is) ∙ lowest.1
 
           pub place_fits : base + t < 2 ^ 64

@@ -1,16 +1,10 @@
 -- What the search in an opened image demands, and what its halving finds. i is an image. Assumes nothing.
-use Rattle.std.specs.Prelude.{◌≡◌, List, ℕ, ◌+◌, ◌-◌, ◌≤◌, ◌<◌, length, get_or}
-use Rattle.broadword.specs.Places.{Debruijn64, select}
-use Rattle.broadword.specs.declared.Found.TheVariants.{At}
+use Rattle.std.specs.Prelude.{◌≡◌, List, ℕ, ◌+◌, ◌-◌, ◌≤◌, ◌<◌, length, get_or, Some}
+use Rattle.broadword.specs.Places.{select}
 use Rattle.elias_fano.specs.declared.image.Parts.{Parts}
 use Rattle.elias_fano.specs.Accept.{times}
 use Rattle.elias_fano.specs.Opening.{Open, OneAt}
 use Rattle.elias_fano_walk.specs.declared.search.Section.{Section}
-
--- an opened image, and both tables
-pub record Searchable (i : List ℕ) (p : Parts) (table places : List ℕ) : Type 0 where
-  pub opened : Open i p table
-  pub rule : Debruijn64 places
 
 -- a range of its values that is not empty
 pub record Range (p : Parts) (a b : ℕ) : Type 0 where
@@ -21,7 +15,7 @@ pub record Range (p : Parts) (a b : ℕ) : Type 0 where
 pub record HighStart (f : ℕ → ℕ) (len h a b r : ℕ) : Type 0 where
   pub from : a ≤ r
   pub upto : r < b
-  pub less : (j x : ℕ) → j < r → a ≤ j → select f len j ≡ At x → x < j + h
+  pub less : (j x : ℕ) → j < r → a ≤ j → select f len j ≡ Some x → x < j + h
 
 -- n ones stand right before the place x, after a zero
 pub record OnesBefore (f : ℕ → ℕ) (x n : ℕ) : Type 0 where
@@ -32,10 +26,10 @@ pub record OnesBefore (f : ℕ → ℕ) (x n : ℕ) : Type 0 where
 -- a section of the range from a on and below b; the ones of the range after it have more than h zeros before them
 pub record HighSection (f : ℕ → ℕ) (len h a b : ℕ) (s : Section) : Type 0 where
   pub start : HighStart f len h a b s.number
-  pub at : select f len s.number ≡ At s.place
+  pub at : select f len s.number ≡ Some s.place
   pub some : s.number < s.end
   pub upto : s.end ≤ b
-  pub more : (j x : ℕ) → s.end ≤ j → j < b → select f len j ≡ At x → j + h < x
+  pub more : (j x : ℕ) → s.end ≤ j → j < b → select f len j ≡ Some x → j + h < x
 
 -- a number of the range from a on and below b; the values of the range before it are below v
 pub record ScanStart (T : List ℕ) (a b v r : ℕ) : Type 0 where

@@ -1,25 +1,17 @@
 -- What a walk over the values of an image demands and leaves. i is an image. Assumes nothing.
 use Rattle.std.specs.Prelude.{◌≡◌, List, Bool, true, cond, ℕ, zero, suc, ◌+◌, ◌-◌, ◌*◌, ◌/◌, ◌%◌, ◌^◌, ◌≤◌, ◌<◌, ltb, length, take, drop}
-use Rattle.errors.specs.Answer.{Answer}
+use Rattle.errors.specs.Answer.{Answer, of_option}
 use Rattle.broadword.specs.Bits.{count}
 use Rattle.broadword.specs.Fields.{word}
-use Rattle.broadword.specs.Places.{Debruijn64}
 use Rattle.bit_words.specs.Vector.{bit_at, bit_over}
 use Rattle.bit_vectors.specs.Walk.{Walking}
 use Rattle.bit_vectors.specs.declared.unary.Unary.{Unary}
 use Rattle.elias_fano.specs.declared.image.Parts.{Parts}
-use Rattle.elias_fano.specs.Accept.{accepted, parts_of, of_value}
 use Rattle.elias_fano.specs.Ask.{Next, nth, ask}
-use Rattle.elias_fano.specs.Opening.{OneAt, high_part}
+use Rattle.elias_fano.specs.Opening.{Open, OneAt, high_part}
 use Rattle.elias_fano_walk.specs.declared.walk.Walk.{Walk}
 use Rattle.elias_fano_walk.specs.declared.walk.One.{One}
 use Rattle.elias_fano_walk.specs.declared.walk.ValueStep.{ValueStep}
-
--- an accepted image with its parts, and the table of the lowest one
-pub record Walkable (i : List ℕ) (p : Parts) (places : List ℕ) : Type 0 where
-  pub ok : accepted i ≡ true
-  pub parts : p ≡ parts_of i
-  pub rule : Debruijn64 places
 
 -- of a walk over the ones, which has taken those before the number k: the place where its word begins, and what it has left of that word
 pub record OnesAhead (i : List ℕ) (p : Parts) (k base rest : ℕ) : Type 0 where
@@ -59,7 +51,7 @@ pub record Walked : Type 0 where
   pub number : ℕ
 
 abbrev pub of_value_step : ValueStep → Walked
-of_value_step r = record { answer = of_value r.value; number = r.walk.number }
+of_value_step r = record { answer = of_option r.value; number = r.walk.number }
 
 -- at the end it stays
 unfoldable pub value_step_of : List ℕ → ℕ → Walked

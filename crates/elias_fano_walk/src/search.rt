@@ -3,20 +3,21 @@
 // The ones with every 32nd number are found by the index without a look at the high words. So the halving compares the one with such a number, at its
 // middle or next before.
 ghost use Rattle.std.specs.Prelude.{◌≡◌, true, ◌-◌, ◌*◌, ◌^◌, ◌≤◌, ◌<◌, length, take as take_list, drop};
+ghost use Rattle.errors.specs.Answer.{of_optional};
 ghost use Rattle.bit_words.specs.Vector.{bit_over};
 ghost use Rattle.darray.specs.Select.{Indexed};
-ghost use Rattle.elias_fano.specs.Accept.{times, of_number};
+ghost use Rattle.elias_fano.specs.Accept.{times};
 ghost use Rattle.elias_fano.specs.Ask.{Binsearch, BinsearchRange, first_index, asked, query};
 ghost use Rattle.elias_fano.specs.Opening.{Open, OneAt};
-ghost use Rattle.elias_fano_walk.specs.Searching.{Range, Searchable, HighStart, OnesBefore, HighSection, ScanStart, ScanSection, AllBelow, FirstFrom};
-ghost use Rattle.elias_fano_walk.specs.Walking.{Walkable, WalkOver};
+ghost use Rattle.elias_fano_walk.specs.Searching.{Range, HighStart, OnesBefore, HighSection, ScanStart, ScanSection, AllBelow, FirstFrom};
+ghost use Rattle.elias_fano_walk.specs.Walking.{WalkOver};
 
 use crate::walk::{Walk, begin_at, ended, take};
 use bit_words::{WORD_LEN, window};
-use broadword::{Found, debruijn64_table, msb, select_in_byte_table};
+use broadword::msb;
 use darray::select::select_within;
 use darray_positions::scan::SUBBLOCK_LEN;
-use elias_fano::image::{Number, Opened, Parts, one_at, open, value_of};
+use elias_fano::image::{Parts, one_at, open, value_of};
 use errors::Refusal;
 
 const LINEAR_SCAN_THRESHOLD: usize = 64;
@@ -42,9 +43,8 @@ fn halve_high(
     wanted: usize,
     a: usize,
     b: usize,
-    table: &[u8; 2048],
 ) -> usize
-    requires { Indexed high.now.now len true index.now.now positions table.now × (a < b) × (b ≤ positions) × (b ≤ 2 ^ 32) }
+    requires { Indexed high.now.now len true index.now.now positions × (a < b) × (b ≤ positions) × (b ≤ 2 ^ 32) }
     ensures { HighStart (bit_over true high.now.now) len wanted a b result }
 {
     if b - a <= LINEAR_SCAN_THRESHOLD {
@@ -54,11 +54,11 @@ fn halve_high(
     let k = mid / SUBBLOCK_LEN * SUBBLOCK_LEN;
     let words = *high;
     let ones = *index;
-    let place = select_within(words, len, true, ones, positions, table, k);
+    let place = select_within(words, len, true, ones, positions, k);
     let below = place - k < wanted;
     let from = if below { k } else { a };
     let to = if below { b } else { k + 1 };
-    halve_high(high, len, index, positions, wanted, from, to, table)
+    halve_high(high, len, index, positions, wanted, from, to)
 }
 
 // How many ones stand right before the place: 64 if there are as many, or if the place is below 64.
@@ -70,8 +70,8 @@ fn ones_before(words: &[u64], place: usize) -> usize
         return WORD_LEN;
     }
     match msb(!window(words, words.len(), place - WORD_LEN)) {
-        Found::At(zero) => WORD_LEN - 1 - zero,
-        Found::Nothing => WORD_LEN,
+        Some(zero) => WORD_LEN - 1 - zero,
+        None => WORD_LEN,
     }
 }
 
@@ -86,12 +86,11 @@ fn high_section(
     wanted: usize,
     a: usize,
     b: usize,
-    table: &[u8; 2048],
 ) -> Section
-    requires { Indexed high.now len true index.now positions table.now × (a < b) × (b ≤ positions) × (b ≤ 2 ^ 32) }
+    requires { Indexed high.now len true index.now positions × (a < b) × (b ≤ positions) × (b ≤ 2 ^ 32) }
     ensures { HighSection (bit_over true high.now) len wanted a b result }
 {
-    let first = select_within(high, len, true, index, positions, table, a);
+    let first = select_within(high, len, true, index, positions, a);
     let whole = Section {
         number: a,
         place: first,
@@ -101,7 +100,7 @@ fn high_section(
         return whole;
     }
     let k = a + SUBBLOCK_LEN;
-    let place = select_within(high, len, true, index, positions, table, k);
+    let place = select_within(high, len, true, index, positions, k);
     let zeros = place - k;
     if zeros < wanted {
         return whole;
@@ -126,8 +125,8 @@ fn high_section(
 
 // Where a scan for val can start, from a on and below b: the values before are below val. It calls itself on the part that can hold the first val: from the
 // number compared on if that value is below val, else up to it.
-fn halve_range(image: &[u64], p: Parts, a: usize, b: usize, val: u64, table: &[u8; 2048]) -> usize
-    requires { Open image.now p table.now × Range p a b }
+fn halve_range(image: &[u64], p: Parts, a: usize, b: usize, val: u64) -> usize
+    requires { Open image.now p × Range p a b }
     ensures { ScanStart (times image.now) a b val result }
 {
     if b - a <= LINEAR_SCAN_THRESHOLD {
@@ -135,22 +134,15 @@ fn halve_range(image: &[u64], p: Parts, a: usize, b: usize, val: u64, table: &[u
     }
     let mid = (a + b) / 2;
     let k = mid / SUBBLOCK_LEN * SUBBLOCK_LEN;
-    if value_of(image, p, k, table) < val {
-        return halve_range(image, p, k, b, val, table);
+    if value_of(image, p, k) < val {
+        return halve_range(image, p, k, b, val);
     }
-    halve_range(image, p, a, k + 1, val, table)
+    halve_range(image, p, a, k + 1, val)
 }
 
 // What is to be scanned for val, by the high bits alone, which are the zeros before its one.
-fn section_by_high(
-    image: &[u64],
-    p: Parts,
-    a: usize,
-    b: usize,
-    val: u64,
-    table: &[u8; 2048],
-) -> Section
-    requires { Open image.now p table.now × Range p a b }
+fn section_by_high(image: &[u64], p: Parts, a: usize, b: usize, val: u64) -> Section
+    requires { Open image.now p × Range p a b }
     ensures { ScanSection image.now p a b val result }
 {
     let low_at = p.low_at;
@@ -161,71 +153,64 @@ fn section_by_high(
     let len = p.high_len;
     let positions = p.num_pushed as usize;
     let wanted = (val >> p.low_len) as usize;
-    let from = halve_high(&high, len, &index, positions, wanted, a, b, table);
-    high_section(high, len, index, positions, wanted, from, b, table)
+    let from = halve_high(&high, len, &index, positions, wanted, a, b);
+    high_section(high, len, index, positions, wanted, from, b)
 }
 
 // The same: by high bits first, so that the halving reads no low word, in a run of equal values too. Where many values with the high bits of val are below
 // it, these do not tell, and the rest is halved by whole values.
-fn scan_section(
-    image: &[u64],
-    p: Parts,
-    a: usize,
-    b: usize,
-    val: u64,
-    table: &[u8; 2048],
-) -> Section
-    requires { Open image.now p table.now × Range p a b }
+fn scan_section(image: &[u64], p: Parts, a: usize, b: usize, val: u64) -> Section
+    requires { Open image.now p × Range p a b }
     ensures { ScanSection image.now p a b val result }
 {
-    let section = section_by_high(image, p, a, b, val, table);
+    let section = section_by_high(image, p, a, b, val);
     let first = section.number;
     let end = section.end;
     if end - first <= SUBBLOCK_LEN {
         return section;
     }
     let next = first + SUBBLOCK_LEN;
-    if value_of(image, p, next, table) < val {
-        let number = halve_range(image, p, next, end, val, table);
-        let place = one_at(image, p, number, table);
+    if value_of(image, p, next) < val {
+        let number = halve_range(image, p, next, end, val);
+        let place = one_at(image, p, number);
         return Section { number, place, end };
     }
     section
 }
 
 // The number of the first value of the section that is val. The values do not fall, so it ends at the first that is not below val.
-fn scan_range(image: &[u64], p: Parts, section: Section, val: u64, places: &[u8; 64]) -> Number
-    requires { Walkable image.now p places.now × OneAt image.now p section.number section.place × Range p section.number section.end }
-    ensures { of_number result ≡ first_index val section.number (take_list (section.end - section.number) (drop section.number (times image.now))) }
+fn scan_range(image: &[u64], p: Parts, section: Section, val: u64) -> Result<Option<usize>, Refusal>
+    requires { Open image.now p × OneAt image.now p section.number section.place × Range p section.number section.end }
+    ensures { of_optional result ≡ first_index val section.number (take_list (section.end - section.number) (drop section.number (times image.now))) }
 {
     let end = section.end;
     let mut i = section.number;
     let mut w = begin_at(image, p, i, section.place);
     while i < end {
-        let t = take(image, p, w, places);
+        let t = take(image, p, w);
         let x = t.value;
         if x == val {
-            return Number::Is(i);
+            return Ok(Some(i));
         }
         if val < x {
-            return Number::Nothing;
+            return Ok(None);
         }
         let rest = t.walk;
         w = rest;
         i += 1;
     }
-    Number::Nothing
+    Ok(None)
 }
 
 // The walk from the first value on that is not below val; those before `from` are.
-fn skip_below(image: &[u64], p: Parts, from: Walk, val: u64, places: &[u8; 64]) -> Walk
-    requires { Walkable image.now p places.now × WalkOver image.now p from × (from.number ≤ p.num_pushed) × AllBelow (times image.now) val from.number }
+fn skip_below(image: &[u64], p: Parts, from: Walk, val: u64) -> Walk
+    requires { Open image.now p × WalkOver image.now p from × (from.number ≤ p.num_pushed) × AllBelow (times image.now) val from.number }
     ensures { WalkOver image.now p result × FirstFrom (times image.now) val result.number }
 {
     let end = p.num_pushed as usize;
     let mut w = from;
     while w.number < end {
-        let t = take(image, p, w, places);
+        let t = take(image, p, w);
         if val <= t.value {
             return w;
         }
@@ -236,17 +221,17 @@ fn skip_below(image: &[u64], p: Parts, from: Walk, val: u64, places: &[u8; 64]) 
 }
 
 // The walk from the first value on that is not below val, of an opened image: by the halving of the search, and without a rank index.
-pub fn begin_from(image: &[u64], p: Parts, val: u64, table: &[u8; 2048], places: &[u8; 64]) -> Walk
-    requires { Searchable image.now p table.now places.now }
+pub fn begin_from(image: &[u64], p: Parts, val: u64) -> Walk
+    requires { Open image.now p }
     ensures { WalkOver image.now p result × FirstFrom (times image.now) val result.number }
 {
     let end = p.num_pushed as usize;
     if end == 0 {
         return ended(0);
     }
-    let section = scan_section(image, p, 0, end, val, table);
+    let section = scan_section(image, p, 0, end, val);
     let from = begin_at(image, p, section.number, section.place);
-    skip_below(image, p, from, val, places)
+    skip_below(image, p, from, val)
 }
 
 // The number of the first value that is val, from a on and below b, of an opened image. A range that begins with val needs no search.
@@ -256,63 +241,48 @@ pub fn binsearch_range_opened(
     a: usize,
     b: usize,
     val: u64,
-    table: &[u8; 2048],
-    places: &[u8; 64],
-) -> Number
-    requires { Searchable image.now p table.now places.now }
-    ensures { of_number result ≡ asked image.now (BinsearchRange a b val) }
+) -> Result<Option<usize>, Refusal>
+    requires { Open image.now p }
+    ensures { of_optional result ≡ asked image.now (BinsearchRange a b val) }
 {
     if a >= b {
-        return Number::Nothing;
+        return Ok(None);
     }
     if b > p.num_pushed as usize {
-        return Number::Refused(Refusal::RangeOutOfBounds);
+        return Err(Refusal::RangeOutOfBounds);
     }
-    if value_of(image, p, a, table) == val {
-        return Number::Is(a);
+    if value_of(image, p, a) == val {
+        return Ok(Some(a));
     }
-    let section = scan_section(image, p, a, b, val, table);
-    scan_range(image, p, section, val, places)
+    let section = scan_section(image, p, a, b, val);
+    scan_range(image, p, section, val)
 }
 
 // The number of the first value that is val, of an opened image.
-pub fn binsearch_opened(
-    image: &[u64],
-    p: Parts,
-    val: u64,
-    table: &[u8; 2048],
-    places: &[u8; 64],
-) -> Number
-    requires { Searchable image.now p table.now places.now }
-    ensures { of_number result ≡ asked image.now (Binsearch val) }
+pub fn binsearch_opened(image: &[u64], p: Parts, val: u64) -> Result<Option<usize>, Refusal>
+    requires { Open image.now p }
+    ensures { of_optional result ≡ asked image.now (Binsearch val) }
 {
-    binsearch_range_opened(image, p, 0, p.num_pushed as usize, val, table, places)
+    binsearch_range_opened(image, p, 0, p.num_pushed as usize, val)
 }
 
 // The number of the first value that is val, from a on and below b.
-pub fn binsearch_range(image: &[u64], a: usize, b: usize, val: u64) -> Number
-    ensures { of_number result ≡ query image.now (BinsearchRange a b val) }
+pub fn binsearch_range(
+    image: &[u64],
+    a: usize,
+    b: usize,
+    val: u64,
+) -> Result<Option<usize>, Refusal>
+    ensures { of_optional result ≡ query image.now (BinsearchRange a b val) }
 {
-    match open(image) {
-        Opened::Image(p) => {
-            let table = select_in_byte_table();
-            let places = debruijn64_table();
-            binsearch_range_opened(image, p, a, b, val, &table, &places)
-        }
-        Opened::Refused(e) => Number::Refused(e),
-    }
+    let p = open(image)?;
+    binsearch_range_opened(image, p, a, b, val)
 }
 
 // The number of the first value that is val.
-pub fn binsearch(image: &[u64], val: u64) -> Number
-    ensures { of_number result ≡ query image.now (Binsearch val) }
+pub fn binsearch(image: &[u64], val: u64) -> Result<Option<usize>, Refusal>
+    ensures { of_optional result ≡ query image.now (Binsearch val) }
 {
-    match open(image) {
-        Opened::Image(p) => {
-            let table = select_in_byte_table();
-            let places = debruijn64_table();
-            binsearch_opened(image, p, val, &table, &places)
-        }
-        Opened::Refused(e) => Number::Refused(e),
-    }
+    let p = open(image)?;
+    binsearch_opened(image, p, val)
 }

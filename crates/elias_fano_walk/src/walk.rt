@@ -4,14 +4,14 @@
 // the high words that it passes; a walk reads each high word once, and low bits 63 at a time. What a step hands on takes no product and no
 // table, so the next need not wait for them.
 ghost use Rattle.std.specs.Prelude.{◌≡◌, true, suc, ◌*◌, ◌/◌, ◌^◌, ◌<◌, get_or};
-ghost use Rattle.elias_fano.specs.Accept.{accepted, parts_of, times};
+ghost use Rattle.elias_fano.specs.Accept.{times};
 ghost use Rattle.elias_fano.specs.Opening.{Open, OneAt};
-ghost use Rattle.elias_fano_walk.specs.Walking.{Walkable, WalkOver, OnesAhead, LowsAhead, OneTaken, low_part, of_value_step, value_step_of};
+ghost use Rattle.elias_fano_walk.specs.Walking.{WalkOver, OnesAhead, LowsAhead, OneTaken, low_part, of_value_step, value_step_of};
 
 use bit_vectors::unary::{skip_zeros, walk_from};
 use bit_words::{WORD_LEN, words_for};
-use broadword::{Found, lsb_by};
-use elias_fano::image::{Parts, Value, one_at};
+use broadword::lsb;
+use elias_fano::image::{Parts, one_at};
 use elias_fano_words::check::bits_at;
 
 #[derive(Clone, Copy)]
@@ -34,7 +34,7 @@ pub struct Taken {
 
 #[derive(Clone, Copy)]
 pub struct ValueStep {
-    pub value: Value,
+    pub value: Option<u64>,
     pub walk: Walk,
 }
 
@@ -81,19 +81,19 @@ pub fn begin_at(image: &[u64], p: Parts, k: usize, place: usize) -> Walk
 }
 
 // The walk from the value with the number k on.
-pub fn begin(image: &[u64], p: Parts, k: usize, table: &[u8; 2048]) -> Walk
-    requires { Open image.now p table.now }
+pub fn begin(image: &[u64], p: Parts, k: usize) -> Walk
+    requires { Open image.now p }
     ensures { WalkOver image.now p result × (result.number ≡ k) }
 {
     if k >= p.num_pushed as usize {
         return ended(k);
     }
-    begin_at(image, p, k, one_at(image, p, k, table))
+    begin_at(image, p, k, one_at(image, p, k))
 }
 
 // The high word with the one of the next value, which there is.
 fn ahead_of(image: &[u64], p: Parts, w: Walk) -> Ahead
-    requires { (accepted image.now ≡ true) × (p ≡ parts_of image.now) × WalkOver image.now p w × (w.number < p.num_pushed) }
+    requires { Open image.now p × WalkOver image.now p w × (w.number < p.num_pushed) }
     ensures { OnesAhead image.now p w.number result.base result.rest × (result.rest ≡ 0 → ⊥) }
 {
     let base = w.base;
@@ -111,20 +111,20 @@ fn ahead_of(image: &[u64], p: Parts, w: Walk) -> Ahead
 }
 
 // The one of the next value, which there is, and the ones after it.
-fn take_one(image: &[u64], p: Parts, w: Walk, places: &[u8; 64]) -> One
-    requires { Walkable image.now p places.now × WalkOver image.now p w × (w.number < p.num_pushed) }
+fn take_one(image: &[u64], p: Parts, w: Walk) -> One
+    requires { Open image.now p × WalkOver image.now p w × (w.number < p.num_pushed) }
     ensures { OneTaken image.now p w result }
 {
     let ahead = ahead_of(image, p, w);
     let base = ahead.base;
     let rest = ahead.rest;
-    match lsb_by(places, rest) {
-        Found::At(bit) => One {
+    match lsb(rest) {
+        Some(bit) => One {
             place: base + bit,
             base,
             rest: rest & (rest - 1),
         },
-        Found::Nothing => One {
+        None => One {
             place: 0,
             base,
             rest,
@@ -134,7 +134,7 @@ fn take_one(image: &[u64], p: Parts, w: Walk, places: &[u8; 64]) -> One
 
 // The low bits from those of the next value on, with all of its own.
 fn lows_of(image: &[u64], p: Parts, w: Walk) -> u64
-    requires { (accepted image.now ≡ true) × (p ≡ parts_of image.now) × WalkOver image.now p w × (w.number < p.num_pushed) }
+    requires { Open image.now p × WalkOver image.now p w × (w.number < p.num_pushed) }
     ensures { LowsAhead (low_part image.now p) (w.number * p.low_len) result × (result / 2 ^ p.low_len ≡ 0 → ⊥) }
 {
     if w.lows >> p.low_len != 0 {
@@ -146,11 +146,11 @@ fn lows_of(image: &[u64], p: Parts, w: Walk) -> u64
 }
 
 // The next value, which there is.
-pub fn take(image: &[u64], p: Parts, w: Walk, places: &[u8; 64]) -> Taken
-    requires { Walkable image.now p places.now × WalkOver image.now p w × (w.number < p.num_pushed) }
+pub fn take(image: &[u64], p: Parts, w: Walk) -> Taken
+    requires { Open image.now p × WalkOver image.now p w × (w.number < p.num_pushed) }
     ensures { WalkOver image.now p result.walk × (result.walk.number ≡ suc w.number) × (result.value ≡ get_or (times image.now) w.number 0) }
 {
-    let one = take_one(image, p, w, places);
+    let one = take_one(image, p, w);
     let lows = lows_of(image, p, w);
     let low = lows & ((1 << p.low_len) - 1);
     Taken {
@@ -165,20 +165,20 @@ pub fn take(image: &[u64], p: Parts, w: Walk, places: &[u8; 64]) -> Taken
 }
 
 // The next value, or none, and none again.
-pub fn next(image: &[u64], p: Parts, w: Walk, places: &[u8; 64]) -> ValueStep
-    requires { Walkable image.now p places.now × WalkOver image.now p w }
+pub fn next(image: &[u64], p: Parts, w: Walk) -> ValueStep
+    requires { Open image.now p × WalkOver image.now p w }
     ensures { WalkOver image.now p result.walk × (of_value_step result ≡ value_step_of (times image.now) w.number) }
 {
     if w.number >= p.num_pushed as usize {
         return ValueStep {
-            value: Value::Nothing,
+            value: None,
             walk: w,
         };
     }
-    let t = take(image, p, w, places);
+    let t = take(image, p, w);
     let rest = t.walk;
     ValueStep {
-        value: Value::Is(t.value),
+        value: Some(t.value),
         walk: rest,
     }
 }

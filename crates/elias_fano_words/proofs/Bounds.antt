@@ -1,4 +1,5 @@
 -- Bounds on a record's sizes: l is below 64, u / 2 ^ l below 2 n, and so the high length at most 3 n + 1. Assumes nothing.
+use Rattle.std.specs.Prelude.{Some, None, Option, unwrap_or}
 use mathlib.Core.Path.{◌≡◌, refl, ap, ◌∙◌, subst, subst⁻¹}
 use Prim.Native.Nat.{ℕ, ◌+◌, ◌*◌, ◌/◌, ◌^◌, ◌≤◌, ◌<◌}
 use native.Mathlib.Nat.{mul-le-mul, lt_of_le_of_lt, div-le_self, div-lt_iff_lt-mul}
@@ -6,9 +7,7 @@ use native.Mathlib.Omega.{arith}
 use lib.Dec.{lit<}
 use lib.Pow.{pow_pos, pow-add}
 use Rattle.broadword.specs.Bits.{bit}
-use Rattle.broadword.specs.Places.{last, or_else}
-use Rattle.broadword.specs.declared.Found.{Found}
-use Rattle.broadword.specs.declared.Found.TheVariants.{At, Nothing}
+use Rattle.broadword.specs.Places.{last}
 use Rattle.elias_fano_words.specs.Sizes.{low_len, high_len}
 use Rattle.elias_fano_words.proofs.Highest.{highest, none_zero}
 
@@ -17,9 +16,9 @@ module _ (u n : ℕ) (hu : u < 2 ^ 64) (hn : 0 < n) where
   quotient_lt = lt_of_le_of_lt (div-le_self u n) hu
 
   -- l is below 64, and the quotient below 2 ^ (l + 1)
-  low_by : (a : Found) → last (bit (u / n)) 64 ≡ a → (or_else a 0 < 64) × (u / n < 2 ^ (or_else a 0 + 1))
-  low_by (At i) e = let h = highest (u / n) i quotient_lt e in (h.small, h.high)
-  low_by Nothing e = let z = none_zero (u / n) quotient_lt e in (lit< tt, omega arith)
+  low_by : (a : Option ℕ) → last (bit (u / n)) 64 ≡ a → (unwrap_or a 0 < 64) × (u / n < 2 ^ (unwrap_or a 0 + 1))
+  low_by (Some i) e = let h = highest (u / n) i quotient_lt e in (h.small, h.high)
+  low_by None e = let z = none_zero (u / n) quotient_lt e in (lit< tt, omega arith)
 
   low_facts : (low_len u n < 64) × (u / n < 2 ^ (low_len u n + 1))
   unfolding low_len

@@ -1,4 +1,5 @@
 -- What the checks of high and low words decide: whether they hold nothing but times in order. Assumes nothing.
+use Rattle.std.specs.Prelude.{Some, None, Option, unwrap_or}
 use mathlib.Core.Path.{◌≡◌, refl, sym, ap, ap₂, ◌∙◌, subst, subst⁻¹}
 use mathlib.Core.List.{List, ◌++◌}
 use mathlib.Core.Bool.{Bool, true, false, cond}
@@ -13,16 +14,13 @@ use lib.Seq.{length-take-le, take_all}
 use mir.Syntax.{w64}
 use mir.Val.{Fits}
 use Rattle.broadword.specs.Bits.{count}
-use Rattle.broadword.specs.Places.{select, or_else}
-use Rattle.broadword.specs.declared.Found.{Found}
+use Rattle.broadword.specs.Places.{select}
 use Rattle.broadword.proofs.Count.{count_add, count_zero}
 use Rattle.broadword.proofs.Find.{Selected, select_at, select_some}
 use Rattle.bit_words.specs.Vector.{bit_at, words_for}
 use Rattle.bit_words.proofs.Last.{not_one}
 use Rattle.bit_words.proofs.Runs.{Fit, bit_at_le}
 use Rattle.darray_positions.specs.Index.{table}
-use Rattle.elias_fano_words.specs.declared.check.Checked.{Checked}
-use Rattle.elias_fano_words.specs.declared.check.Checked.TheVariants as checked
 use Rattle.elias_fano_words.specs.Sizes.{low_len, high_len}
 use Rattle.elias_fano_words.specs.Times.{last_of, time_in, times_in, holds_if}
 use Rattle.elias_fano_words.specs.Checks.{low_bits, InOrder, Clear, Held, LastOne, time_at, Filled, Checkable}
@@ -34,8 +32,8 @@ use Rattle.elias_fano_words.proofs.LastTime.{below}
 use Rattle.elias_fano_words.proofs.Rising.{last_of-table}
 
 -- what `check` answers
-abbrev answer : Bool → ℕ → ℕ → ℕ → List ℕ → Checked
-answer strict u n m ws = cond (holds_if u n strict m ws) (checked.Last (last_of (times_in u n m ws))) checked.Wrong
+abbrev answer : Bool → ℕ → ℕ → ℕ → List ℕ → Option ℕ
+answer strict u n m ws = cond (holds_if u n strict m ws) (Some (last_of (times_in u n m ws))) None
 
 -- the high words, s of them, and the low words after them, as the program parts them
 abbrev front : ℕ → List ℕ → List ℕ
@@ -113,29 +111,29 @@ module _ {strict : Bool} {u n m l len s : ℕ} {ws : List ℕ} (d : Given strict
   fit_parts : Fit (high ++ low)
   fit_parts = subst⁻¹ Fit (parted s ws) d.fit
 
-  wrong : (Ordered strict u n m high low → ⊥) → checked.Wrong ≡ answer strict u n m ws
+  wrong : (Ordered strict u n m high low → ⊥) → None ≡ answer strict u n m ws
   wrong z = by (holds_if u n strict m ws) refl
     where
-      by : (b : Bool) → holds_if u n strict m ws ≡ b → checked.Wrong ≡ cond b (checked.Last (last_of (times_in u n m ws))) checked.Wrong
+      by : (b : Bool) → holds_if u n strict m ws ≡ b → None ≡ cond b (Some (last_of (times_in u n m ws))) None
       by true e = absurd (z (held.of_holds u n m high low size d.ok.upto room strict (ap (holds_if u n strict m) (parted s ws) ∙ e)))
       by false e = refl
 
-  right : Ordered strict u n m high low → (t : ℕ) → t ≡ last_of (table (time_in u n high low) m) → checked.Last t ≡ answer strict u n m ws
+  right : Ordered strict u n m high low → (t : ℕ) → t ≡ last_of (table (time_in u n high low) m) → Some t ≡ answer strict u n m ws
   right o t e =
       let h : holds_if u n strict m ws ≡ true = ap (holds_if u n strict m) (sym (parted s ws)) ∙ held.holds_of u n m high low size d.ok.upto room strict fit_parts o in
       let T : times_in u n m ws ≡ table (time_in u n high low) m = ap (times_in u n m) (sym (parted s ws)) ∙ held.times_are u n m high low size in
-      ap checked.Last (e ∙ ap last_of (sym T)) ∙ ap (λ b. cond b (checked.Last (last_of (times_in u n m ws))) checked.Wrong) (sym h)
+      ap Some (e ∙ ap last_of (sym T)) ∙ ap (λ b. cond b (Some (last_of (times_in u n m ws))) None) (sym h)
 
-  pub not_clear : (Clear high len → ⊥) → checked.Wrong ≡ answer strict u n m ws
+  pub not_clear : (Clear high len → ⊥) → None ≡ answer strict u n m ws
   not_clear z = wrong (λ o. z (subst⁻¹ (Clear high) d.ok.high o.high_clear))
 
-  pub not_ones : (count f len ≡ m → ⊥) → checked.Wrong ≡ answer strict u n m ws
+  pub not_ones : (count f len ≡ m → ⊥) → None ≡ answer strict u n m ws
   not_ones z = wrong (λ o. z (ap (count f) d.ok.high ∙ o.ones))
 
-  pub not_low : (Clear low (m * l) → ⊥) → checked.Wrong ≡ answer strict u n m ws
+  pub not_low : (Clear low (m * l) → ⊥) → None ≡ answer strict u n m ws
   not_low z = wrong (λ o. z (subst⁻¹ (λ (k : ℕ). Clear low (m * k)) d.ok.low o.low_clear))
 
-  pub not_order : (InOrder strict l high low → ⊥) → checked.Wrong ≡ answer strict u n m ws
+  pub not_order : (InOrder strict l high low → ⊥) → None ≡ answer strict u n m ws
   not_order z = wrong (λ o. z (subst⁻¹ (λ (k : ℕ). InOrder strict k high low) d.ok.low o.order))
 
   -- ---- as many ones as times
@@ -186,7 +184,7 @@ module _ {strict : Bool} {u n m l len s : ℕ} {ws : List ℕ} (d : Given strict
       time_is =
           let r = last_selected.1 in
           let a : select f (high_len u n) (m - 1) ≡ _ = select_at f (high_len u n) (m - 1) place (subst (λ (k : ℕ). place < k) d.ok.high r.within) r.one r.before in
-          ap (λ (x : Found). (or_else x 0 - (m - 1)) * 2 ^ low_len u n + low_bits (low_len u n) low (m - 1)) a
+          ap (λ (x : Option ℕ). (unwrap_or x 0 - (m - 1)) * 2 ^ low_len u n + low_bits (low_len u n) low (m - 1)) a
           ∙ ap (λ (k : ℕ). time_at k low (m - 1) place) (sym d.ok.low)
 
     -- ---- and all else is right
@@ -201,13 +199,13 @@ module _ {strict : Bool} {u n m l len s : ℕ} {ws : List ℕ} (d : Given strict
         below = h;
       }
 
-      pub none : m ≡ 0 → checked.Last 0 ≡ answer strict u n m ws
+      pub none : m ≡ 0 → Some 0 ≡ answer strict u n m ws
       none e = right (ordered (λ h. absurd (omega arith))) 0 (sym (no_time (time_in u n high low) m e))
 
-      pub by_last : (m ≡ 0 → ⊥) → (c : Checked) → ((p : ℕ) → LastOne high p → c ≡ below u (time_at l low (m - 1) p)) → c ≡ answer strict u n m ws
+      pub by_last : (m ≡ 0 → ⊥) → (c : Option ℕ) → ((p : ℕ) → LastOne high p → c ≡ below u (time_at l low (m - 1) p)) → c ≡ answer strict u n m ws
       by_last some c h = h (place some) (last_one some) ∙ by (ltb (time_at l low (m - 1) (place some)) u) refl
         where
-          by : (b : Bool) → ltb (time_at l low (m - 1) (place some)) u ≡ b → cond b (checked.Last (time_at l low (m - 1) (place some))) checked.Wrong ≡ answer strict u n m ws
+          by : (b : Bool) → ltb (time_at l low (m - 1) (place some)) u ≡ b → cond b (Some (time_at l low (m - 1) (place some))) None ≡ answer strict u n m ws
           by true e =
               let t = time_is some in
               right (ordered (λ _. subst⁻¹ (λ (x : ℕ). x < u) t (ltb-true (time_at l low (m - 1) (place some)) u e))) (time_at l low (m - 1) (place some))

@@ -1,5 +1,6 @@
 -- The words of times in order hold those times: the high words have their ones, the low words their low bits, and nothing else.
 -- Assumes nothing.
+use Rattle.std.specs.Prelude.{Some, Option, unwrap_or}
 use mathlib.Core.Path.{◌≡◌, sym, ap, ap₂, ◌∙◌, subst⁻¹}
 use mathlib.Core.List.{List, ◌++◌, append_assoc}
 use mathlib.Core.Bool.{true}
@@ -12,9 +13,7 @@ use lib.Seq.{ext_get_or, take_at, drop_at}
 use lib.Pow.{pow_pos, pow_mono, shr_mono, split}
 use Rattle.broadword.specs.Bits.{bit, count}
 use Rattle.broadword.specs.Fields.{word}
-use Rattle.broadword.specs.Places.{select, or_else}
-use Rattle.broadword.specs.declared.Found.{Found}
-use Rattle.broadword.specs.declared.Found.TheVariants.{At}
+use Rattle.broadword.specs.Places.{select}
 use Rattle.broadword.proofs.Count.{bit-above, count_same}
 use Rattle.broadword.proofs.Fields.{digit_is, digit-word, word_same}
 use Rattle.broadword.proofs.Find.{select_at}
@@ -109,7 +108,7 @@ module _ (u n : ℕ) (T : List ℕ) (r : rising u 0 T ≡ true) (few : length T 
   high_count : (i : ℕ) → i ≤ high_len u n → count (bit_at (high_words u n T)) i ≡ count (bit h) i
   high_count i g = count_same (bit_at (high_words u n T)) (bit h) i (λ j m. high_bit j (lt_of_lt_of_le m g))
 
-  pub select_high : (k : ℕ) → k < length T → select (bit_at (high_words u n T)) (high_len u n) k ≡ At (place_of l T k)
+  pub select_high : (k : ℕ) → k < length T → select (bit_at (high_words u n T)) (high_len u n) k ≡ Some (place_of l T k)
   select_high k g =
       let p = place_lt k g in
       let o = ones_of_lem l u T r in
@@ -130,7 +129,7 @@ module _ (u n : ℕ) (T : List ℕ) (r : rising u 0 T ≡ true) (few : length T 
     unfolding time_in
     time_of j g =
         let d : (x : ℕ) → x + j - j ≡ x = λ x. omega arith in
-        ap₂ (λ (a : Found) (b : ℕ). (or_else a 0 - j) * 2 ^ l + b) (select_high j g) (low_words_lem l T k R j room g)
+        ap₂ (λ (a : Option ℕ) (b : ℕ). (unwrap_or a 0 - j) * 2 ^ l + b) (select_high j g) (low_words_lem l T k R j room g)
         ∙ ap (λ (x : ℕ). x * 2 ^ l + get_or T j 0 % 2 ^ l) (d (get_or T j 0 / 2 ^ l)) ∙ split (get_or T j 0) l
 
     words_are : bit_words u n k T ++ R ≡ high_words u n T ++ low

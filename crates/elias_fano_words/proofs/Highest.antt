@@ -1,4 +1,5 @@
 -- The place of a number's highest one, as `last` of its bits, and the powers that the number is between. Assumes nothing.
+use Rattle.std.specs.Prelude.{Some, None}
 use mathlib.Core.Path.{◌≡◌, ◌∙◌, subst, subst⁻¹}
 use Prim.Native.Nat.{ℕ, ◌+◌, ◌/◌, ◌^◌, ◌≤◌, ◌<◌}
 use native.Mathlib.Nat.{lt_of_le_of_lt, lt_of_lt_of_le, div-le_self, div-lt_iff_lt-mul, one-mul, lt_of_not-le}
@@ -8,13 +9,12 @@ use lib.Dec.{lit<}
 use lib.Pow.{pow_pos, pow_mono}
 use Rattle.broadword.specs.Bits.{bit}
 use Rattle.broadword.specs.Places.{last}
-use Rattle.broadword.specs.declared.Found.TheVariants.{At, Nothing}
 use Rattle.broadword.proofs.Count.{bit_le, bit-above, bit_shift}
 use Rattle.broadword.proofs.Find.{last_is, last_nothing}
 use Rattle.bit_words.proofs.Last.{not_one, no_bits}
 
 -- a number is below the power after its highest one
-below_next : (q i : ℕ) → q < 2 ^ 64 → last (bit q) 64 ≡ At i → q < 2 ^ (i + 1)
+below_next : (q i : ℕ) → q < 2 ^ 64 → last (bit q) 64 ≡ Some i → q < 2 ^ (i + 1)
 below_next q i h e =
     let r = last_is (bit q) 64 i e in
     let w : ℕ = q / 2 ^ (i + 1) in
@@ -26,11 +26,11 @@ below_next q i h e =
     high j (no g) = bit-above q (i + 1 + j) (lt_of_lt_of_le h (pow_mono {i = 64} (omega (arith, lt_of_not-le g))))
 
 -- one that has none is 0
-pub none_zero : (q : ℕ) → q < 2 ^ 64 → last (bit q) 64 ≡ Nothing → q ≡ 0
+pub none_zero : (q : ℕ) → q < 2 ^ 64 → last (bit q) 64 ≡ None → q ≡ 0
 none_zero q h e = no_bits q h (λ j l. not_one (bit q j) (bit_le q j) (last_nothing (bit q) 64 e j l))
 
 -- one that has some is at least the power of its highest
-least : (q i : ℕ) → last (bit q) 64 ≡ At i → 2 ^ i ≤ q
+least : (q i : ℕ) → last (bit q) 64 ≡ Some i → 2 ^ i ≤ q
 least q i e = go (dec_lt q (2 ^ i))
   where
     go : Dec (q < 2 ^ i) → 2 ^ i ≤ q
@@ -42,5 +42,5 @@ pub record Highest (x i : ℕ) : Type 0 where
   pub high : x < 2 ^ (i + 1)
   pub small : i < 64
 
-pub highest : (x i : ℕ) → x < 2 ^ 64 → last (bit x) 64 ≡ At i → Highest x i
+pub highest : (x i : ℕ) → x < 2 ^ 64 → last (bit x) 64 ≡ Some i → Highest x i
 highest x i h e = record { low = least x i e; high = below_next x i h e; small = (last_is (bit x) 64 i e).within }

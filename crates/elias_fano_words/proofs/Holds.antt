@@ -1,5 +1,6 @@
 -- Words hold nothing but times in order exactly where their high ones and low bits are in order: `holds` as the facts of `Ordered`.
 -- Assumes nothing.
+use Rattle.std.specs.Prelude.{Some, Option, unwrap_or}
 use mathlib.Core.Path.{◌≡◌, refl, sym, ap, ap₂, ◌∙◌, subst, subst⁻¹}
 use mathlib.Core.List.{List, [], ◌++◌, append-nil}
 use mathlib.Core.Bool.{Bool, true}
@@ -14,9 +15,7 @@ use lib.ListN.{length, get_or, take, drop, length-append}
 use lib.Seq.{take_at, drop_at}
 use Rattle.broadword.specs.Bits.{bit, count}
 use Rattle.broadword.specs.Fields.{flag, digit}
-use Rattle.broadword.specs.Places.{select, or_else}
-use Rattle.broadword.specs.declared.Found.{Found}
-use Rattle.broadword.specs.declared.Found.TheVariants.{At}
+use Rattle.broadword.specs.Places.{select}
 use Rattle.broadword.proofs.Count.{bit-digit, count_le}
 use Rattle.broadword.proofs.Fields.{digit_is, digit-word, word_lt}
 use Rattle.broadword.proofs.Find.{Selected, select_at}
@@ -150,12 +149,12 @@ module _ (strict : Bool) (u n m : ℕ) (high low : List ℕ) (few : m ≤ n) (o 
   place_ge : (k : ℕ) → k < m → k ≤ place k
   place_ge k h = le_trans (le_of_eq (sym (has k h).before)) (count_le ones (place k) (bit_at_le high))
 
-  pub select_is : (k : ℕ) → k < m → select ones H k ≡ At (place k)
+  pub select_is : (k : ℕ) → k < m → select ones H k ≡ Some (place k)
   select_is k h = place_select ones (bit_at_le high) H k (counted k h)
 
   pub time_is : (k : ℕ) → k < m → time k ≡ (place k - k) * 2 ^ w + low_bits w low k
   unfolding time_in
-  time_is k h = ap (λ (a : Found). (or_else a 0 - k) * 2 ^ w + low_bits w low k) (select_is k h)
+  time_is k h = ap (λ (a : Option ℕ). (unwrap_or a 0 - k) * 2 ^ w + low_bits w low k) (select_is k h)
 
   time_high : (k : ℕ) → k < m → time k / 2 ^ w ≡ place k - k
   time_high k h = ap (λ (x : ℕ). x / 2 ^ w) (time_is k h) ∙ digits_div (place k - k) (low_bits_lt w low k)
@@ -203,7 +202,7 @@ module _ (strict : Bool) (u n m : ℕ) (high low : List ℕ) (few : m ≤ n) (o 
       (o.ones ∙ sym length-times ∙ sym (count_high u n times times_rise few_times))
       (λ k g.
       let q : k < m = lt_of_lt_of_le g (le_of_eq o.ones) in
-      select_is k q ∙ ap At (sym (place_time k q)) ∙ sym (select_high u n times times_rise few_times k (in_times k q)))
+      select_is k q ∙ ap Some (sym (place_time k q)) ∙ sym (select_high u n times times_rise few_times k (in_times k q)))
       i h
   high_bits i (no g) =
       let h : H ≤ i = (let q = lt_of_not-le g in omega arith) in

@@ -1,4 +1,5 @@
 -- The last one of the high words, and the time that it stands for. Assumes nothing.
+use Rattle.std.specs.Prelude.{Some, None, Option}
 use mathlib.Core.Path.{◌≡◌, sym, ap, ap₂, ◌∙◌, subst, subst⁻¹}
 use mathlib.Core.List.{List}
 use mathlib.Core.Bool.{cond}
@@ -13,15 +14,12 @@ use lib.ListN.{length, get_or}
 use lib.Pow.{pow_pos, pow-add, shr_lt, split}
 use Rattle.broadword.specs.Bits.{bit, count}
 use Rattle.broadword.specs.Places.{last}
-use Rattle.broadword.specs.declared.Found.TheVariants.{At, Nothing}
 use Rattle.broadword.proofs.Count.{bit_le}
 use Rattle.broadword.proofs.Find.{last_is, last_nothing}
 use Rattle.bit_words.specs.Vector.{bit_at}
 use Rattle.bit_words.specs.Inner.{Ending}
 use Rattle.bit_words.proofs.Last.{not_one, no_bits}
 use Rattle.bit_words.proofs.Runs.{Fit, bit_at_le, bit_at-word, rank_le}
-use Rattle.elias_fano_words.specs.declared.check.Checked.{Checked}
-use Rattle.elias_fano_words.specs.declared.check.Checked.TheVariants as checked
 use Rattle.elias_fano_words.specs.Checks.{low_bits, Held, LastOne, time_at}
 use Rattle.elias_fano_words.proofs.Holds.{low_bits_lt}
 use Rattle.elias_fano_words.proofs.Unset as unset
@@ -39,7 +37,7 @@ module _ (ws : List ℕ) (fit : Fit ws) (some : (p : ℕ) × LastOne ws p) (used
   abbrev i : ℕ
   i = used - 1
 
-  pub last_in : (b : ℕ) → At b ≡ last (bit (get_or ws i 0)) 64 → LastOne ws (i * 64 + b)
+  pub last_in : (b : ℕ) → Some b ≡ last (bit (get_or ws i 0)) 64 → LastOne ws (i * 64 + b)
   last_in b e =
       let r = last_is (bit (get_or ws i 0)) 64 b (sym e) in
       record { one = bit_at-word ws i b r.within ∙ r.one; after = λ j h. by j h (dec_lt j (used * 64)) }
@@ -52,10 +50,10 @@ module _ (ws : List ℕ) (fit : Fit ws) (some : (p : ℕ) × LastOne ws p) (used
           not_one (bit_at ws j) (bit_at_le ws j) (λ o. (last_is (bit (get_or ws i 0)) 64 b (sym e)).after d (omega arith) k (sym (bit_at-word ws i d k) ∙ ap (bit_at ws) s ∙ o))
       by j h (no g) = unset.clear-past ws fit (used * 64) used end (omega arith) j (omega (arith, lt_of_not-le g))
 
-  pub last_lt : (b : ℕ) → At b ≡ last (bit (get_or ws i 0)) 64 → b < 64
+  pub last_lt : (b : ℕ) → Some b ≡ last (bit (get_or ws i 0)) 64 → b < 64
   last_lt b e = (last_is (bit (get_or ws i 0)) 64 b (sym e)).within
 
-  pub last_some : Nothing ≡ last (bit (get_or ws i 0)) 64 → ⊥
+  pub last_some : None ≡ last (bit (get_or ws i 0)) 64 → ⊥
   last_some e =
       end.some i (omega (arith, used_pos)) (no_bits (get_or ws i 0) (fit i) (λ j l.
       not_one (bit (get_or ws i 0) j) (bit_le (get_or ws i 0) j) (last_nothing (bit (get_or ws i 0)) 64 (sym e) j l)))
@@ -79,23 +77,23 @@ held_last low l m h = subst (Held l low) (let e : m ≡ m - 1 + 1 = omega arith 
 -- ---- its time
 
 -- the time t, if it is below u
-abbrev pub below : ℕ → ℕ → Checked
-below u t = cond (ltb t u) (checked.Last t) checked.Wrong
+abbrev pub below : ℕ → ℕ → Option ℕ
+below u t = cond (ltb t u) (Some t) None
 
 module _ (high low : List ℕ) (u l k r : ℕ) (hu : u < 2 ^ 64) (narrow : l < 64) (is : LastOne high r) where
   -- for the last one, wherever it was found
-  any : (c : Checked) → c ≡ below u (time_at l low k r) → (p : ℕ) → LastOne high p → c ≡ below u (time_at l low k p)
+  any : (c : Option ℕ) → c ≡ below u (time_at l low k r) → (p : ℕ) → LastOne high p → c ≡ below u (time_at l low k p)
   any c e p h = e ∙ ap (λ (q : ℕ). below u (time_at l low k q)) (same-last high r p is h)
 
   -- its high bits are above those of u
-  pub too_high : u / 2 ^ l < r - k → (p : ℕ) → LastOne high p → checked.Wrong ≡ below u (time_at l low k p)
+  pub too_high : u / 2 ^ l < r - k → (p : ℕ) → LastOne high p → None ≡ below u (time_at l low k p)
   too_high h =
       let P : ℕ = 2 ^ l in
       let s : u / P * P + u % P ≡ u = split u l in
       let m : u % P < P = mod-lt u (pow_pos l) in
       let g : (u / P + 1) * P ≤ (r - k) * P = mul-le-mul_right P (let e : u / P + 1 ≤ r - k = omega arith in e) in
       let f : u ≤ time_at l low k r = omega arith in
-      any checked.Wrong (ap (λ b. cond b (checked.Last (time_at l low k r)) checked.Wrong) (sym (le-ltb (time_at l low k r) u f)))
+      any None (ap (λ b. cond b (Some (time_at l low k r)) None) (sym (le-ltb (time_at l low k r) u f)))
 
   -- or not: then they stay in the word when shifted
   module _ (h : r - k ≤ u / 2 ^ l) where
@@ -117,10 +115,10 @@ module _ (high low : List ℕ) (u l k r : ℕ) (hu : u < 2 ^ 64) (narrow : l < 6
       pub time_fits : ((r - k) * 2 ^ l) % 2 ^ 64 + b < 2 ^ 64
       time_fits = subst⁻¹ (λ (n : ℕ). n < 2 ^ 64) time_is (time_lt (low_bits l low k) (low_bits_lt l low k))
 
-      pub time_below : ((r - k) * 2 ^ l) % 2 ^ 64 + b < u → (p : ℕ) → LastOne high p → checked.Last (((r - k) * 2 ^ l) % 2 ^ 64 + b) ≡ below u (time_at l low k p)
+      pub time_below : ((r - k) * 2 ^ l) % 2 ^ 64 + b < u → (p : ℕ) → LastOne high p → Some (((r - k) * 2 ^ l) % 2 ^ 64 + b) ≡ below u (time_at l low k p)
       time_below g =
-          any (checked.Last (((r - k) * 2 ^ l) % 2 ^ 64 + b))
-          (ap checked.Last time_is ∙ ap (λ b. cond b (checked.Last (time_at l low k r)) checked.Wrong) (sym (lt-ltb (time_at l low k r) u (subst (λ (n : ℕ). n < u) time_is g))))
+          any (Some (((r - k) * 2 ^ l) % 2 ^ 64 + b))
+          (ap Some time_is ∙ ap (λ b. cond b (Some (time_at l low k r)) None) (sym (lt-ltb (time_at l low k r) u (subst (λ (n : ℕ). n < u) time_is g))))
 
-      pub time_not : u ≤ ((r - k) * 2 ^ l) % 2 ^ 64 + b → (p : ℕ) → LastOne high p → checked.Wrong ≡ below u (time_at l low k p)
-      time_not g = any checked.Wrong (ap (λ b. cond b (checked.Last (time_at l low k r)) checked.Wrong) (sym (le-ltb (time_at l low k r) u (subst (λ (n : ℕ). u ≤ n) time_is g))))
+      pub time_not : u ≤ ((r - k) * 2 ^ l) % 2 ^ 64 + b → (p : ℕ) → LastOne high p → None ≡ below u (time_at l low k p)
+      time_not g = any None (ap (λ b. cond b (Some (time_at l low k r)) None) (sym (le-ltb (time_at l low k r) u (subst (λ (n : ℕ). u ≤ n) time_is g))))

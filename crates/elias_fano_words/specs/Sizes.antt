@@ -1,14 +1,14 @@
 -- The sizes of a record and of its image: document 01, "The image", and document 02 (vii). u is the universe, n the declared count, m how many times
 -- there are, c the rank choice. Assumes nothing.
-use Rattle.std.specs.Prelude.{Bool, cond, ℕ, ◌+◌, ◌-◌, ◌*◌, ◌/◌, ◌^◌}
+use Rattle.std.specs.Prelude.{Bool, cond, ℕ, ◌+◌, ◌-◌, ◌*◌, ◌/◌, ◌^◌, unwrap_or}
 use Rattle.broadword.specs.Bits.{bit}
-use Rattle.broadword.specs.Places.{last, or_else}
+use Rattle.broadword.specs.Places.{last}
 use Rattle.bit_words.specs.Vector.{words_for}
 use Rattle.elias_fano_words.specs.declared.sizes.Sizes.{Sizes}
 
 -- l: the place of the highest one of u / n, or 0 if that is 0
 unfoldable pub low_len : ℕ → ℕ → ℕ
-low_len u n = or_else (last (bit (u / n)) 64) 0
+low_len u n = unwrap_or (last (bit (u / n)) 64) 0
 
 -- the high length H
 unfoldable pub high_len : ℕ → ℕ → ℕ

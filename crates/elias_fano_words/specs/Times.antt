@@ -1,8 +1,8 @@
 -- The times that high and low words hold, and whether some words hold nothing but times in order. u is the universe, n the declared
 -- count, m how many times there are, T the list of times. Assumes nothing.
-use Rattle.std.specs.Prelude.{List, [], ◌∷◌, ◌++◌, Bool, true, not, ◌&&◌, ◌||◌, ℕ, ◌+◌, ◌-◌, ◌*◌, ◌^◌, leb, ltb, length, take, drop}
+use Rattle.std.specs.Prelude.{List, [], ◌∷◌, ◌++◌, Bool, true, not, ◌&&◌, ◌||◌, ℕ, ◌+◌, ◌-◌, ◌*◌, ◌^◌, leb, ltb, length, take, drop, unwrap_or}
 use Rattle.broadword.specs.Fields.{word}
-use Rattle.broadword.specs.Places.{select, or_else}
+use Rattle.broadword.specs.Places.{select}
 use Rattle.bit_words.specs.Vector.{bit_at, words_for, number_words}
 use Rattle.darray_positions.specs.Index.{table}
 use Rattle.darray.specs.Queries.{same}
@@ -41,7 +41,7 @@ module _ (u n : ℕ) where
   -- the time with the number k: the place of the k-th high one less k, above the low bits with that number
   unfoldable pub time_in : List ℕ → List ℕ → ℕ → ℕ
   time_in high low k =
-      (or_else (select (bit_at high) (high_len u n) k) 0 - k) * 2 ^ low_len u n + word 1 (λ i. bit_at low (k * low_len u n + i)) (low_len u n)
+      (unwrap_or (select (bit_at high) (high_len u n) k) 0 - k) * 2 ^ low_len u n + word 1 (λ i. bit_at low (k * low_len u n + i)) (low_len u n)
 
   -- m times of the high words and the low words after them
   unfoldable pub times_in : ℕ → List ℕ → List ℕ

@@ -12,14 +12,7 @@ ghost use Rattle.elias_fano_words.specs.Checks.{Held, Rises, Each, LastOne, time
 ghost use Rattle.elias_fano_words.specs.Times.{last_of, times_in, holds_if};
 
 use bit_words::{WORD_LEN, last_used, rank_words, words_for};
-use broadword::{Found, msb, popcount};
-
-// The last time, 0 where there is none, or that the words do not hold such times. It is inner: no call of the record answers so.
-#[derive(Clone, Copy)]
-pub enum Checked {
-    Last(u64),
-    Wrong,
-}
+use broadword::{msb, popcount};
 
 // Whether no bit is set from the place pos on.
 fn clear_from(words: &[u64], pos: usize) -> bool
@@ -139,27 +132,27 @@ fn last_one(words: &[u64]) -> usize
 {
     let i = last_used(words, words.len()) - 1;
     match msb(words[i]) {
-        Found::At(bit) => i * WORD_LEN + bit,
-        Found::Nothing => 0,
+        Some(bit) => i * WORD_LEN + bit,
+        None => 0,
     }
 }
 
 // The last of m times, if it is below the universe. Its high bits are compared first: above those of the universe, they could leave the
 // word when shifted.
-fn last_time(high: &[u64], low: &[u64], universe: u64, l: usize, m: usize) -> Checked
+fn last_time(high: &[u64], low: &[u64], universe: u64, l: usize, m: usize) -> Option<u64>
     requires { Filled l high.now low.now m }
-    ensures { (p : ℕ) → LastOne high.now p → result ≡ cond (ltb (time_at l low.now (m - 1) p) universe) (Checked.Last (time_at l low.now (m - 1) p)) Checked.Wrong }
+    ensures { (p : ℕ) → LastOne high.now p → result ≡ cond (ltb (time_at l low.now (m - 1) p) universe) (Some (time_at l low.now (m - 1) p)) None }
 {
     let k = m - 1;
     let upper = (last_one(high) - k) as u64;
     if universe >> l < upper {
-        return Checked::Wrong;
+        return None;
     }
     let time = (upper << l) + low_at(low, l, k);
     if time < universe {
-        Checked::Last(time)
+        Some(time)
     } else {
-        Checked::Wrong
+        None
     }
 }
 
@@ -173,28 +166,28 @@ pub fn check(
     low_len: usize,
     high_len: usize,
     strict: bool,
-) -> Checked
+) -> Option<u64>
     requires { Checkable universe num_vals num_pushed low_len high_len words.now }
-    ensures { result ≡ cond (holds_if universe num_vals strict num_pushed words.now) (Checked.Last (last_of (times_in universe num_vals num_pushed words.now))) Checked.Wrong }
+    ensures { result ≡ cond (holds_if universe num_vals strict num_pushed words.now) (Some (last_of (times_in universe num_vals num_pushed words.now))) None }
 {
     let m = num_pushed as usize;
     let split = words_for(high_len);
     let high = &words[..split];
     let low = &words[split..];
     if !clear_from(high, high_len) {
-        return Checked::Wrong;
+        return None;
     }
     if rank_words(high, high_len) != m {
-        return Checked::Wrong;
+        return None;
     }
     if !clear_from(low, m * low_len) {
-        return Checked::Wrong;
+        return None;
     }
     if !in_order(high, low, low_len, strict) {
-        return Checked::Wrong;
+        return None;
     }
     if m == 0 {
-        return Checked::Last(0);
+        return Some(0);
     }
     last_time(high, low, universe, low_len, m)
 }

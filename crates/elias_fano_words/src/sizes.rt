@@ -4,7 +4,7 @@ ghost use Rattle.std.specs.Prelude.{◌≡◌, cond, ℕ, ◌*◌, ◌^◌, ◌<
 ghost use Rattle.elias_fano_words.specs.Sizes.{low_len, sizes_of, index_len, image_len, limit};
 
 use bit_words::words_for;
-use broadword::{Found, msb};
+use broadword::msb;
 
 // The most values that a record may declare.
 pub const MAX_VALS: u64 = 16_777_216;
@@ -26,10 +26,7 @@ pub fn low_len(universe: u64, num_vals: u64) -> usize
     requires { 0 < num_vals }
     ensures { result ≡ low_len universe num_vals }
 {
-    match msb(universe / num_vals) {
-        Found::At(l) => l,
-        Found::Nothing => 0,
-    }
+    msb(universe / num_vals).unwrap_or(0)
 }
 
 // How many high bits there are, and how many words a new record zeroes: the header, the high words, and the low words of as many values

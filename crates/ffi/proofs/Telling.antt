@@ -1,30 +1,20 @@
 -- Each answer of `elias_fano` as the struct that tells it. Assumes nothing.
+use Rattle.std.specs.Prelude.{Ok, Err, Result}
 use mathlib.Core.Path.{◌≡◌, refl, sym, ap, ◌∙◌, subst}
 use mathlib.Core.List.{List}
 use mathlib.Core.Bool.{Bool, false, cond}
 use Prim.Native.Nat.{ℕ}
 use lib.Dec.{eqb}
-use Rattle.errors.specs.Answer.{Answer, value, done, refused, Outcome}
+use Rattle.errors.specs.Answer.{Answer, value, done, refused, Outcome, of_result, of_truth}
 use Rattle.errors.specs.Refusal.{number_of}
 use Rattle.errors.specs.declared.Refusal.{Refusal}
 use Rattle.errors.specs.declared.Refusal.TheVariants.{NoValues, TooMany, ShortBuffer, Decreasing, OutOfUniverse, Full, Invalid, NoRankIndex, RangeOutOfBounds, NoBits, NoOnes, SumTooLarge, InvalidBits, WideBits, NoRoom, OutOfBounds, InvalidWindows}
 use Rattle.elias_fano.specs.declared.builder.Builder.{Builder}
-use Rattle.elias_fano.specs.declared.builder.Built.{Built}
-use Rattle.elias_fano.specs.declared.builder.Built.TheVariants as built
-use Rattle.elias_fano.specs.declared.builder.Pushed.{Pushed}
-use Rattle.elias_fano.specs.declared.builder.Pushed.TheVariants as pushed
-use Rattle.elias_fano.specs.declared.image.Opened.{Opened}
-use Rattle.elias_fano.specs.declared.image.Opened.TheVariants as opened
 use Rattle.elias_fano.specs.declared.image.Parts.{Parts}
 use Rattle.elias_fano.specs.Accept.{Opening, of_opened}
-use Rattle.elias_fano.specs.Made.{Made, made, of_pushed, of_built, built_answer}
-use Rattle.elias_fano_queries.specs.declared.header.Truth.{Truth}
-use Rattle.elias_fano_queries.specs.declared.header.Truth.TheVariants as truth
-use Rattle.elias_fano_queries.specs.Truth.{of_truth}
+use Rattle.elias_fano.specs.Made.{Made, made, of_pushed, of_built}
 use Rattle.broadword.specs.Fields.{flag}
 use Rattle.sarray.specs.declared.vector.SArray.{SArray}
-use Rattle.sarray.specs.declared.vector.Vector.{Vector}
-use Rattle.sarray.specs.declared.vector.Vector.TheVariants as found
 use Rattle.sarray.specs.Opened.{SparseOpening, of_vector}
 use Rattle.ffi.specs.Answers.{of_refusal, ef_answer, ef_opened, ef_sparse}
 
@@ -53,41 +43,41 @@ refusal_is k e h = ap of_refusal h ∙ ap (λ (b : Bool). cond b done (refused (
 
 -- ---- a start or a reading
 
-pub accepted-told : (b c : Builder) (p : Pushed) (d : Builder) (w : List ℕ) → p ≡ pushed.Accepted c → d ≡ c → made (of_refusal 0) d w ≡ of_pushed b p w
-accepted-told b c p d w e h = ap (λ (x : Builder). made done x w) h ∙ sym (ap (λ (x : Pushed). of_pushed b x w) e)
+pub accepted-told : (b c : Builder) (p : Result Builder Refusal) (d : Builder) (w : List ℕ) → p ≡ Ok c → d ≡ c → made (of_refusal 0) d w ≡ of_pushed b p w
+accepted-told b c p d w e h = ap (λ (x : Builder). made done x w) h ∙ sym (ap (λ (x : Result Builder Refusal). of_pushed b x w) e)
 
-pub refused_told : (b : Builder) (p : Pushed) (e : Refusal) (k : ℕ) (w : List ℕ) → p ≡ pushed.Refused e → k ≡ number_of e → made (of_refusal k) b w ≡ of_pushed b p w
-refused_told b p e k w q h = ap (λ (a : Answer). made a b w) (refusal_is k e h) ∙ sym (ap (λ (x : Pushed). of_pushed b x w) q)
+pub refused_told : (b : Builder) (p : Result Builder Refusal) (e : Refusal) (k : ℕ) (w : List ℕ) → p ≡ Err e → k ≡ number_of e → made (of_refusal k) b w ≡ of_pushed b p w
+refused_told b p e k w q h = ap (λ (a : Answer). made a b w) (refusal_is k e h) ∙ sym (ap (λ (x : Result Builder Refusal). of_pushed b x w) q)
 
 -- ---- a finish
 
-answer_is : (b : Builder) (r : Built) (w : List ℕ) → built_answer r ≡ (of_built b r w).answer
-answer_is b (built.Words k) w = refl
-answer_is b (built.Refused e) w = refl
+answer_is : (b : Builder) (r : Result ℕ Refusal) (w : List ℕ) → of_result r ≡ (of_built b r w).answer
+answer_is b (Ok k) w = refl
+answer_is b (Err e) w = refl
 
-words_are : (b : Builder) (r : Built) (w : List ℕ) → w ≡ (of_built b r w).words
-words_are b (built.Words k) w = refl
-words_are b (built.Refused e) w = refl
+words_are : (b : Builder) (r : Result ℕ Refusal) (w : List ℕ) → w ≡ (of_built b r w).words
+words_are b (Ok k) w = refl
+words_are b (Err e) w = refl
 
-pub finish-told : (b c : Builder) → c ≡ b → (r : Built) (w : List ℕ) (m : Builder → Made) → of_built c r w ≡ m c → (ef_answer (built_answer r) ≡ ef_answer (m b).answer) × (w ≡ (m b).words)
+pub finish-told : (b c : Builder) → c ≡ b → (r : Result ℕ Refusal) (w : List ℕ) (m : Builder → Made) → of_built c r w ≡ m c → (ef_answer (of_result r) ≡ ef_answer (m b).answer) × (w ≡ (m b).words)
 finish-told b c ec r w m er =
     let e : of_built b r w ≡ m b = subst (λ (x : Builder). of_built x r w ≡ m x) ec er in
     (ap ef_answer (answer_is b r w ∙ ap (λ (x : Made). x.answer) e), words_are b r w ∙ ap (λ (x : Made). x.words) e)
 
 -- ---- opening
 
-module _ (r : Opened) (a : Opening) (er : of_opened r ≡ a) where
-  pub image-told : (p : Parts) → r ≡ opened.Image p → 0 ≡ ef_opened a
+module _ (r : Result Parts Refusal) (a : Opening) (er : of_opened r ≡ a) where
+  pub image-told : (p : Parts) → r ≡ Ok p → 0 ≡ ef_opened a
   image-told p e = ap ef_opened (sym (ap of_opened e) ∙ er)
 
-  pub refusal_told : (e : Refusal) (k : ℕ) → r ≡ opened.Refused e → k ≡ number_of e → k ≡ ef_opened a
+  pub refusal_told : (e : Refusal) (k : ℕ) → r ≡ Err e → k ≡ number_of e → k ≡ ef_opened a
   refusal_told e k q h = h ∙ ap ef_opened (sym (ap of_opened q) ∙ er)
 
-module _ (r : Vector) (a : SparseOpening) (er : of_vector r ≡ a) where
-  pub vector_told : (v : SArray) → r ≡ found.Opened v → 0 ≡ ef_sparse a
+module _ (r : Result SArray Refusal) (a : SparseOpening) (er : of_vector r ≡ a) where
+  pub vector_told : (v : SArray) → r ≡ Ok v → 0 ≡ ef_sparse a
   vector_told v e = ap ef_sparse (sym (ap of_vector e) ∙ er)
 
-  pub vector_refused : (e : Refusal) (k : ℕ) → r ≡ found.Refused e → k ≡ number_of e → k ≡ ef_sparse a
+  pub vector_refused : (e : Refusal) (k : ℕ) → r ≡ Err e → k ≡ number_of e → k ≡ ef_sparse a
   vector_refused e k q h = h ∙ ap ef_sparse (sym (ap of_vector q) ∙ er)
 
 -- ---- a question
@@ -100,8 +90,8 @@ module _ {E : Type 0} (of : E → Answer) (v x : E) (e : v ≡ x) where
   pub no_case_told : (k n : ℕ) → of x ≡ refused k → n ≡ k → ef_answer (refused n) ≡ ef_answer (of v)
   no_case_told k n h en = ap (λ (y : ℕ). ef_answer (refused y)) en ∙ ap ef_answer (sym h) ∙ case_told
 
-pub truth_told : (t : Truth) (b c : Bool) → t ≡ truth.Is b → b ≡ c → ef_answer (value (flag c)) ≡ ef_answer (of_truth t)
-truth_told t b c e h = case_told of_truth t (truth.Is c) (e ∙ ap truth.Is h)
+pub truth_told : (t : Result Bool Refusal) (b c : Bool) → t ≡ Ok b → b ≡ c → ef_answer (value (flag c)) ≡ ef_answer (of_truth t)
+truth_told t b c e h = case_told of_truth t (Ok c) (e ∙ ap Ok h)
 
 -- ---- a call that alters words
 

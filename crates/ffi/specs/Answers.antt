@@ -1,8 +1,8 @@
 -- The structs of the library in document 01's terms. Assumes nothing.
-use Rattle.std.specs.Prelude.{◌≡◌, List, cond, ℕ, eqb}
+use Rattle.errors.specs.declared.Refusal.{Refusal}
+use Rattle.std.specs.Prelude.{◌≡◌, List, cond, ℕ, eqb, Result}
 use Rattle.errors.specs.Answer.{Answer, value, none, done, refused}
 use Rattle.elias_fano.specs.declared.builder.Builder.{Builder}
-use Rattle.elias_fano.specs.declared.builder.Pushed.{Pushed}
 use Rattle.elias_fano.specs.Accept.{Opening, parts, unopened}
 use Rattle.elias_fano.specs.Made.{made, builder, of_pushed}
 use Rattle.sarray.specs.Opened.{SparseOpening, vector, no_vector}
@@ -35,5 +35,5 @@ ef_sparse (vector v) = 0
 ef_sparse (no_vector k) = k
 
 -- a start or a reading, told
-abbrev pub Told : EfBuilder → Pushed → EfPushed → Type 0
+abbrev pub Told : EfBuilder → Result Builder Refusal → EfPushed → Type 0
 Told b p r = (w : List ℕ) → made (of_refusal r.refusal) (of_builder r.builder) w ≡ of_pushed (of_builder b) p w

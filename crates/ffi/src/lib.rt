@@ -19,11 +19,11 @@ mod sums;
 mod tell;
 
 use crate::tell::{tell_built, tell_number};
-use elias_fano::builder::{Builder, Pushed};
-use elias_fano::image::Opened;
+use elias_fano::builder::Builder;
 use elias_fano::{builder, image};
 use elias_fano_from_bits::build::from_bits;
 use errors::number;
+use errors::Refusal;
 
 // How far a record is written.
 #[repr(C)]
@@ -80,15 +80,15 @@ fn inner(b: EfBuilder) -> Builder
     }
 }
 
-fn told(b: EfBuilder, p: Pushed) -> EfPushed
+fn told(b: EfBuilder, p: Result<Builder, Refusal>) -> EfPushed
     ensures { Told b p result }
 {
     match p {
-        Pushed::Accepted(next) => EfPushed {
+        Ok(next) => EfPushed {
             refusal: 0,
             builder: outer(next),
         },
-        Pushed::Refused(e) => EfPushed {
+        Err(e) => EfPushed {
             refusal: number(e),
             builder: b,
         },
@@ -162,7 +162,7 @@ pub extern "C" fn ef_open(words: &[u64]) -> u64
     ensures { result ≡ ef_opened (open_of words.now) }
 {
     match image::open(words) {
-        Opened::Image(_p) => 0,
-        Opened::Refused(e) => number(e),
+        Ok(_p) => 0,
+        Err(e) => number(e),
     }
 }

@@ -2,15 +2,13 @@
 ghost use Rattle.std.specs.Prelude.{◌≡◌, ◌∷◌, ◌++◌, ◌+◌, ◌*◌, ◌≤◌, ◌<◌, min, length, take as take_list, drop};
 ghost use Rattle.errors.specs.Answer.{value, leaves};
 ghost use Rattle.elias_fano.specs.Ask.{Select, Delta, Rank, Predecessor, Successor, Binsearch, query};
-ghost use Rattle.elias_fano_queries.specs.Demands.{IsOpen};
-ghost use Rattle.elias_fano_walk.specs.Searching.{Searchable};
+ghost use Rattle.elias_fano.specs.Opening.{Open};
 ghost use Rattle.ffi.specs.Answers.{ef_answer};
 ghost use Rattle.ffi.specs.Many.{question_of, answered, many_of};
 
 use crate::tell::{tell_number, tell_value};
 use crate::{EF_REFUSED, EF_VALUE, EfAnswer};
-use broadword::{debruijn64_table, select_in_byte_table};
-use elias_fano::image::{Opened, Parts, open, select_opened};
+use elias_fano::image::{Parts, open, select_opened};
 use elias_fano_queries::delta::delta_opened;
 use elias_fano_queries::neighbours::{predecessor_opened, successor_opened};
 use elias_fano_queries::rank::rank_opened;
@@ -34,19 +32,17 @@ fn answer_opened(
     p: Parts,
     kind: Kind,
     arg: u64,
-    table: &[u8; 2048],
-    places: &[u8; 64],
 ) -> EfAnswer
-    requires { Searchable image.now p table.now places.now }
+    requires { Open image.now p }
     ensures { result ≡ ef_answer (query image.now (question_of kind arg)) }
 {
     match kind {
-        Kind::Select => tell_value(select_opened(image, p, arg as usize, table)),
-        Kind::Delta => tell_value(delta_opened(image, p, arg as usize, table, places)),
-        Kind::Rank => tell_number(rank_opened(image, p, arg, table)),
-        Kind::Predecessor => tell_value(predecessor_opened(image, p, arg, table)),
-        Kind::Successor => tell_value(successor_opened(image, p, arg, table, places)),
-        Kind::Binsearch => tell_number(binsearch_opened(image, p, arg, table, places)),
+        Kind::Select => tell_value(select_opened(image, p, arg as usize)),
+        Kind::Delta => tell_value(delta_opened(image, p, arg as usize)),
+        Kind::Rank => tell_number(rank_opened(image, p, arg)),
+        Kind::Predecessor => tell_value(predecessor_opened(image, p, arg)),
+        Kind::Successor => tell_value(successor_opened(image, p, arg)),
+        Kind::Binsearch => tell_number(binsearch_opened(image, p, arg)),
     }
 }
 
@@ -67,15 +63,13 @@ fn answer_all(
     args: &[u64],
     count: usize,
     out: &mut [u64],
-    table: &[u8; 2048],
-    places: &[u8; 64],
 )
-    requires { Searchable image.now p table.now places.now × (count ≤ length args.now) × (2 * count ≤ length out.old) }
+    requires { Open image.now p × (count ≤ length args.now) × (2 * count ≤ length out.old) }
     ensures { out.new ≡ answered (λ x. query image.now (question_of kind x)) count args.now out.old }
 {
     let mut i = 0;
     while i < count {
-        let a = answer_opened(image, p, kind, args[i], table, places);
+        let a = answer_opened(image, p, kind, args[i]);
         put(&mut *out, i, a);
         i += 1;
     }
@@ -89,13 +83,11 @@ pub fn lesser(a: usize, b: usize) -> usize
 
 // As many answers as both arrays hold, of an accepted image, and how many. The tables are made here.
 fn answer_fitting(image: &[u64], p: Parts, kind: Kind, args: &[u64], out: &mut [u64]) -> usize
-    requires { IsOpen image.now p }
+    requires { Open image.now p }
     ensures { leaves (value result) out.new ≡ many_of image.now (question_of kind) args.now out.old }
 {
-    let table = select_in_byte_table();
-    let places = debruijn64_table();
     let count = lesser(args.len(), out.len() / 2);
-    answer_all(image, p, kind, args, count, &mut *out, &table, &places);
+    answer_all(image, p, kind, args, count, &mut *out);
     count
 }
 
@@ -104,11 +96,11 @@ fn answer_many(words: &[u64], kind: Kind, args: &[u64], out: &mut [u64]) -> EfAn
     ensures { (result ≡ ef_answer (many_of words.now (question_of kind) args.now out.old).answer) × (out.new ≡ (many_of words.now (question_of kind) args.now out.old).words) }
 {
     match open(words) {
-        Opened::Image(p) => EfAnswer {
+        Ok(p) => EfAnswer {
             kind: EF_VALUE,
             value: answer_fitting(words, p, kind, args, &mut *out) as u64,
         },
-        Opened::Refused(e) => EfAnswer {
+        Err(e) => EfAnswer {
             kind: EF_REFUSED,
             value: number(e),
         },

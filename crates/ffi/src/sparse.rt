@@ -1,7 +1,6 @@
 // The sparse bit vector: one question a call, and questions by the many. The vector is opened first, and 7 decided by it, in time linear in its words.
 ghost use Rattle.std.specs.Prelude.{◌≡◌, ◌*◌, ◌≤◌, length};
 ghost use Rattle.errors.specs.Answer.{value, leaves};
-ghost use Rattle.broadword.specs.Places.{SelectInByte, Debruijn64};
 ghost use Rattle.sarray.specs.Ask.{Access, Rank1, Select1, Predecessor1, Successor1, sparse_query};
 ghost use Rattle.sarray.specs.Build.{sparse_from_bits};
 ghost use Rattle.sarray.specs.Opened.{sparse_open, OpenVector};
@@ -11,14 +10,13 @@ ghost use Rattle.ffi.specs.Many.{sparse_question_of, answered, many_sparse};
 use crate::many::{lesser, put};
 use crate::tell::{tell_bit, tell_built, tell_count, tell_place};
 use crate::{EF_REFUSED, EF_VALUE, EfAnswer};
-use broadword::{debruijn64_table, select_in_byte_table};
 use errors::number;
 use sarray::build::from_bits;
 use sarray::queries::{
     access, access_opened, predecessor1, predecessor1_opened, rank1, rank1_opened, select1,
     select1_opened, successor1, successor1_opened,
 };
-use sarray::vector::{SArray, Vector, open};
+use sarray::vector::{SArray, open};
 
 // Which question is asked of each argument.
 #[derive(Clone, Copy)]
@@ -49,8 +47,8 @@ pub extern "C" fn ef_sarray_open(image: &[u64], len: usize, rank: bool) -> u64
     ensures { result ≡ ef_sparse (sparse_open len rank image.now) }
 {
     match open(image, len, rank) {
-        Vector::Opened(_v) => 0,
-        Vector::Refused(e) => number(e),
+        Ok(_v) => 0,
+        Err(e) => number(e),
     }
 }
 
@@ -110,19 +108,17 @@ fn answer_opened(
     v: SArray,
     kind: SparseKind,
     arg: u64,
-    table: &[u8; 2048],
-    places: &[u8; 64],
 ) -> EfAnswer
-    requires { OpenVector image.now v × SelectInByte table.now × Debruijn64 places.now }
+    requires { OpenVector image.now v }
     ensures { result ≡ ef_answer (sparse_query v.num_bits v.has_rank image.now (sparse_question_of kind arg)) }
 {
     let at = arg as usize;
     match kind {
-        SparseKind::Access => tell_bit(access_opened(image, v, at, table, places)),
-        SparseKind::Rank1 => tell_count(rank1_opened(image, v, at, table)),
-        SparseKind::Select1 => tell_place(select1_opened(image, v, at, table)),
-        SparseKind::Predecessor1 => tell_place(predecessor1_opened(image, v, at, table)),
-        SparseKind::Successor1 => tell_place(successor1_opened(image, v, at, table, places)),
+        SparseKind::Access => tell_bit(access_opened(image, v, at)),
+        SparseKind::Rank1 => tell_count(rank1_opened(image, v, at)),
+        SparseKind::Select1 => tell_place(select1_opened(image, v, at)),
+        SparseKind::Predecessor1 => tell_place(predecessor1_opened(image, v, at)),
+        SparseKind::Successor1 => tell_place(successor1_opened(image, v, at)),
     }
 }
 
@@ -134,15 +130,13 @@ fn answer_all(
     args: &[u64],
     count: usize,
     out: &mut [u64],
-    table: &[u8; 2048],
-    places: &[u8; 64],
 )
-    requires { OpenVector image.now v × SelectInByte table.now × Debruijn64 places.now × (count ≤ length args.now) × (2 * count ≤ length out.old) }
+    requires { OpenVector image.now v × (count ≤ length args.now) × (2 * count ≤ length out.old) }
     ensures { out.new ≡ answered (λ x. sparse_query v.num_bits v.has_rank image.now (sparse_question_of kind x)) count args.now out.old }
 {
     let mut i = 0;
     while i < count {
-        let a = answer_opened(image, v, kind, args[i], table, places);
+        let a = answer_opened(image, v, kind, args[i]);
         put(&mut *out, i, a);
         i += 1;
     }
@@ -159,10 +153,8 @@ fn answer_fitting(
     requires { OpenVector image.now v }
     ensures { leaves (value result) out.new ≡ many_sparse v.num_bits v.has_rank image.now (sparse_question_of kind) args.now out.old }
 {
-    let table = select_in_byte_table();
-    let places = debruijn64_table();
     let count = lesser(args.len(), out.len() / 2);
-    answer_all(image, v, kind, args, count, &mut *out, &table, &places);
+    answer_all(image, v, kind, args, count, &mut *out);
     count
 }
 
@@ -178,11 +170,11 @@ fn answer_many(
     ensures { (result ≡ ef_answer (many_sparse len rank image.now (sparse_question_of kind) args.now out.old).answer) × (out.new ≡ (many_sparse len rank image.now (sparse_question_of kind) args.now out.old).words) }
 {
     match open(image, len, rank) {
-        Vector::Opened(v) => EfAnswer {
+        Ok(v) => EfAnswer {
             kind: EF_VALUE,
             value: answer_fitting(image, v, kind, args, &mut *out) as u64,
         },
-        Vector::Refused(e) => EfAnswer {
+        Err(e) => EfAnswer {
             kind: EF_REFUSED,
             value: number(e),
         },

@@ -1,50 +1,44 @@
 // Each answer as C has it: its kind, and the value or the refusal's number.
 ghost use Rattle.std.specs.Prelude.{◌≡◌};
-ghost use Rattle.bit_vectors.specs.Queries.{of_bit, of_count, of_place};
-ghost use Rattle.elias_fano.specs.Accept.{of_number, of_value};
-ghost use Rattle.elias_fano.specs.Made.{built_answer};
-ghost use Rattle.elias_fano_queries.specs.Truth.{of_truth};
+ghost use Rattle.errors.specs.Answer.{of_bit, of_optional, of_result, of_truth};
 ghost use Rattle.ffi.specs.Answers.{ef_answer};
 
 use crate::{EF_NONE, EF_REFUSED, EF_VALUE, EfAnswer};
-use bit_vectors::{Bit, Count, Place};
-use elias_fano::builder::Built;
-use elias_fano::image::{Number, Value};
-use elias_fano_queries::header::Truth;
 use errors::number;
+use errors::Refusal;
 
-pub fn tell_value(v: Value) -> EfAnswer
-    ensures { result ≡ ef_answer (of_value v) }
+pub fn tell_value(v: Result<Option<u64>, Refusal>) -> EfAnswer
+    ensures { result ≡ ef_answer (of_optional v) }
 {
     match v {
-        Value::Is(t) => EfAnswer {
+        Ok(Some(t)) => EfAnswer {
             kind: EF_VALUE,
             value: t,
         },
-        Value::Nothing => EfAnswer {
+        Ok(None) => EfAnswer {
             kind: EF_NONE,
             value: 0,
         },
-        Value::Refused(e) => EfAnswer {
+        Err(e) => EfAnswer {
             kind: EF_REFUSED,
             value: number(e),
         },
     }
 }
 
-pub fn tell_number(n: Number) -> EfAnswer
-    ensures { result ≡ ef_answer (of_number n) }
+pub fn tell_number(n: Result<Option<usize>, Refusal>) -> EfAnswer
+    ensures { result ≡ ef_answer (of_optional n) }
 {
     match n {
-        Number::Is(k) => EfAnswer {
+        Ok(Some(k)) => EfAnswer {
             kind: EF_VALUE,
             value: k as u64,
         },
-        Number::Nothing => EfAnswer {
+        Ok(None) => EfAnswer {
             kind: EF_NONE,
             value: 0,
         },
-        Number::Refused(e) => EfAnswer {
+        Err(e) => EfAnswer {
             kind: EF_REFUSED,
             value: number(e),
         },
@@ -52,15 +46,15 @@ pub fn tell_number(n: Number) -> EfAnswer
 }
 
 // A yes is 1 and a no is 0.
-pub fn tell_truth(t: Truth) -> EfAnswer
+pub fn tell_truth(t: Result<bool, Refusal>) -> EfAnswer
     ensures { result ≡ ef_answer (of_truth t) }
 {
     match t {
-        Truth::Is(yes) => EfAnswer {
+        Ok(yes) => EfAnswer {
             kind: EF_VALUE,
             value: if yes { 1 } else { 0 },
         },
-        Truth::Refused(e) => EfAnswer {
+        Err(e) => EfAnswer {
             kind: EF_REFUSED,
             value: number(e),
         },
@@ -68,15 +62,15 @@ pub fn tell_truth(t: Truth) -> EfAnswer
 }
 
 // The length of an image.
-pub fn tell_built(b: Built) -> EfAnswer
-    ensures { result ≡ ef_answer (built_answer b) }
+pub fn tell_built(b: Result<usize, Refusal>) -> EfAnswer
+    ensures { result ≡ ef_answer (of_result b) }
 {
     match b {
-        Built::Words(k) => EfAnswer {
+        Ok(k) => EfAnswer {
             kind: EF_VALUE,
             value: k as u64,
         },
-        Built::Refused(e) => EfAnswer {
+        Err(e) => EfAnswer {
             kind: EF_REFUSED,
             value: number(e),
         },
@@ -84,60 +78,60 @@ pub fn tell_built(b: Built) -> EfAnswer
 }
 
 // A bit is 0 or 1.
-pub fn tell_bit(b: Bit) -> EfAnswer
+pub fn tell_bit(b: Result<Option<bool>, Refusal>) -> EfAnswer
     ensures { result ≡ ef_answer (of_bit b) }
 {
     match b {
-        Bit::Is(set) => {
+        Ok(Some(set)) => {
             let bit = set as u64;
             EfAnswer {
                 kind: EF_VALUE,
                 value: bit,
             }
         }
-        Bit::Nothing => EfAnswer {
+        Ok(None) => EfAnswer {
             kind: EF_NONE,
             value: 0,
         },
-        Bit::Refused(e) => EfAnswer {
+        Err(e) => EfAnswer {
             kind: EF_REFUSED,
             value: number(e),
         },
     }
 }
 
-pub fn tell_count(n: Count) -> EfAnswer
-    ensures { result ≡ ef_answer (of_count n) }
+pub fn tell_count(n: Result<Option<usize>, Refusal>) -> EfAnswer
+    ensures { result ≡ ef_answer (of_optional n) }
 {
     match n {
-        Count::Ones(k) => EfAnswer {
+        Ok(Some(k)) => EfAnswer {
             kind: EF_VALUE,
             value: k as u64,
         },
-        Count::Nothing => EfAnswer {
+        Ok(None) => EfAnswer {
             kind: EF_NONE,
             value: 0,
         },
-        Count::Refused(e) => EfAnswer {
+        Err(e) => EfAnswer {
             kind: EF_REFUSED,
             value: number(e),
         },
     }
 }
 
-pub fn tell_place(p: Place) -> EfAnswer
-    ensures { result ≡ ef_answer (of_place p) }
+pub fn tell_place(p: Result<Option<usize>, Refusal>) -> EfAnswer
+    ensures { result ≡ ef_answer (of_optional p) }
 {
     match p {
-        Place::At(i) => EfAnswer {
+        Ok(Some(i)) => EfAnswer {
             kind: EF_VALUE,
             value: i as u64,
         },
-        Place::Nothing => EfAnswer {
+        Ok(None) => EfAnswer {
             kind: EF_NONE,
             value: 0,
         },
-        Place::Refused(e) => EfAnswer {
+        Err(e) => EfAnswer {
             kind: EF_REFUSED,
             value: number(e),
         },

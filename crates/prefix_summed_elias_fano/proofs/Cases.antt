@@ -1,4 +1,5 @@
 -- The calls case by case. Assumes nothing.
+use Rattle.std.specs.Prelude.{Ok, Err, Some, None, Result, Option}
 use mathlib.Core.Path.{◌≡◌, sym, ap, ◌∙◌, subst}
 use mathlib.Core.List.{List, ◌++◌}
 use mathlib.Core.Bool.{Bool, cond}
@@ -12,10 +13,6 @@ use Rattle.elias_fano.specs.Ask.{Delta, Len, query}
 use Rattle.prefix_summed_elias_fano.specs.Building.{Summable, Ready, Tests, SumOf}
 use Rattle.prefix_summed_elias_fano.specs.Sums.{sum, sums_image, slice_test, from_slice_of, access_of, len_of}
 use Rattle.prefix_summed_elias_fano.specs.declared.build.Job.{Job}
-use Rattle.prefix_summed_elias_fano.specs.declared.build.Summed.{Summed}
-use Rattle.prefix_summed_elias_fano.specs.declared.build.Summed.TheVariants as summed
-use Rattle.prefix_summed_elias_fano.specs.declared.build.TestedSlice.{TestedSlice}
-use Rattle.prefix_summed_elias_fano.specs.declared.build.TestedSlice.TheVariants as tested
 
 -- ---- the tests
 
@@ -37,20 +34,20 @@ module _ (A : List ℕ) (k : ℕ) where
     unfolding slice_test
     slice_done h = simp (le-ltb 16777216 (length A) ok.most, lt-leb (2 ^ 64 - 1) (sum A) ok.small, le-ltb k (length (sums_image A)) h)
 
-  module _ (r : TestedSlice) (t : Tests A k r) where
-    pub passed : (j : Job) → r ≡ tested.Passed j → Ready A k j
+  module _ (r : Result Job Refusal) (t : Tests A k r) where
+    pub passed : (j : Job) → r ≡ Ok j → Ready A k j
     passed j e = subst (Tests A k) e t
 
-    pub not_passed : (x : Refusal) → r ≡ tested.Refused x → slice_test A k ≡ refused (number_of x)
+    pub not_passed : (x : Refusal) → r ≡ Err x → slice_test A k ≡ refused (number_of x)
     not_passed x e = subst (Tests A k) e t
 
 -- ---- the sum
 
-module _ (A : List ℕ) (r : Summed) (t : SumOf A r) where
-  pub sum_is : (s : ℕ) → r ≡ summed.Is s → (s ≡ sum A) × (s < 2 ^ 64 - 1)
+module _ (A : List ℕ) (r : Option ℕ) (t : SumOf A r) where
+  pub sum_is : (s : ℕ) → r ≡ Some s → (s ≡ sum A) × (s < 2 ^ 64 - 1)
   sum_is s e = subst (SumOf A) e t
 
-  pub too_large : r ≡ summed.TooLarge → 2 ^ 64 - 1 ≤ sum A
+  pub too_large : r ≡ None → 2 ^ 64 - 1 ≤ sum A
   too_large e = subst (SumOf A) e t
 
 -- ---- the call

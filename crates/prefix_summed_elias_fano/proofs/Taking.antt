@@ -1,4 +1,5 @@
 -- The walk over the items: how it begins, what a step takes and leaves, and reading out. Assumes nothing.
+use Rattle.std.specs.Prelude.{Ok, Err, Result}
 use mathlib.Core.Path.{◌≡◌, refl, sym, ap, ap₂, ◌∙◌, subst}
 use mathlib.Core.List.{List, ◌∷◌, ◌++◌}
 use mathlib.Core.Bool.{Bool, true, cond, ◌||◌}
@@ -12,10 +13,8 @@ use lib.Seq.{get_or-drop}
 use Rattle.errors.specs.Answer.{value, none, refused, Outcome, leaves}
 use Rattle.errors.specs.Refusal.{number_of}
 use Rattle.errors.specs.declared.Refusal.{Refusal}
-use Rattle.elias_fano.specs.declared.image.Opened.{Opened}
-use Rattle.elias_fano.specs.declared.image.Opened.TheVariants as opened
 use Rattle.elias_fano.specs.declared.image.Parts.{Parts}
-use Rattle.elias_fano.specs.Accept.{universe, times, accepted, parts_of, no_parts, of_opened, open_of}
+use Rattle.elias_fano.specs.Accept.{universe, times, accepted, parts_of, no_parts, unopened, open_of}
 use Rattle.elias_fano.specs.Ask.{nth, read_out, filled}
 use Rattle.elias_fano.proofs.Answers.{not_open}
 use Rattle.elias_fano.proofs.Images as images
@@ -26,8 +25,6 @@ use Rattle.elias_fano_walk.proofs.Reading as reading
 use Rattle.prefix_summed_elias_fano.specs.Items.{askable, items_of, ItemsOver, StartsItems, read_items_of}
 use Rattle.prefix_summed_elias_fano.specs.declared.walk.ItemPlace.{ItemPlace}
 use Rattle.prefix_summed_elias_fano.specs.declared.walk.ItemWalk.{ItemWalk}
-use Rattle.prefix_summed_elias_fano.specs.declared.walk.ItemsStart.{ItemsStart}
-use Rattle.prefix_summed_elias_fano.specs.declared.walk.ItemsStart.TheVariants as started
 use Rattle.prefix_summed_elias_fano.proofs.Gaps as gaps
 
 -- ---- the value before
@@ -60,15 +57,15 @@ module _ (i : List ℕ) where
   unfolding askable
   askable_some h = ap (λ (b : Bool). b || accepted i) (ne_eqb (length i) 0 h)
 
-  pub starts_none : length i ≡ 0 → (k : ℕ) (c : ItemPlace) → c.parts ≡ no_parts → c.walk.values.number ≡ k → StartsItems i k (started.ItemPlace c)
+  pub starts_none : length i ≡ 0 → (k : ℕ) (c : ItemPlace) → c.parts ≡ no_parts → c.walk.values.number ≡ k → StartsItems i k (Ok c)
   starts_none e k c z n = (askable_none e, over_none e c.parts c.walk (ap (λ (p : Parts). p.num_pushed) z), n, z ∙ sym (ap (λ (b : Bool). cond b no_parts (parts_of i)) (eq-eqb (length i) 0 e)))
 
-  module _ (some : length i ≡ 0 → ⊥) (r : Opened) (er : of_opened r ≡ open_of i) where
-    pub starts_opened : accepted i ≡ true → (k : ℕ) (c : ItemPlace) → ItemsOver i c.parts c.walk → c.walk.values.number ≡ k → c.parts ≡ parts_of i → StartsItems i k (started.ItemPlace c)
+  module _ (some : length i ≡ 0 → ⊥) where
+    pub starts_opened : accepted i ≡ true → (k : ℕ) (c : ItemPlace) → ItemsOver i c.parts c.walk → c.walk.values.number ≡ k → c.parts ≡ parts_of i → StartsItems i k (Ok c)
     starts_opened ok k c o n e = (askable_some some ∙ ok, o, n, e ∙ sym (ap (λ (b : Bool). cond b no_parts (parts_of i)) (ne_eqb (length i) 0 some)))
 
-    pub starts_refused : (x : Refusal) → r ≡ opened.Refused x → (k : ℕ) → StartsItems i k (started.Refused x)
-    starts_refused x e k = let d = not_open i r x er e in (askable_some some ∙ d.0, d.1)
+    pub starts_refused : (x : Refusal) (k : ℕ) → unopened (number_of x) ≡ open_of i → StartsItems i k (Err x)
+    starts_refused x k e = let d = not_open i (number_of x) e in (askable_some some ∙ d.0, d.1)
 
 -- ---- a step
 
@@ -147,24 +144,18 @@ module _ (i : List ℕ) (p : Parts) (w : ItemWalk) (o : ItemsOver i p w) (count 
   pub read_fills : (out : List ℕ) → out ≡ take count (drop w.values.number (items_of i)) ++ drop count d → out ≡ filled (items_of i) w.values.number d
   read_fills out x = reading.fills_of (items_of i) w.values.number count d by_items out x
 
-module _ (i : List ℕ) (k : ℕ) where
-  pub started_over : (s : ItemsStart) (c : ItemPlace) → StartsItems i k s → s ≡ started.ItemPlace c → ItemsOver i c.parts c.walk
-  started_over s c h e = (subst (StartsItems i k) e h).1
-
 module _ (i : List ℕ) (k : ℕ) (d : List ℕ) where
   abbrev read : Outcome
   read = leaves (value (length (read_out (items_of i) k (length d)))) (filled (items_of i) k d)
 
-  pub items_read : (s : ItemsStart) (c : ItemPlace) → StartsItems i k s → s ≡ started.ItemPlace c → (r : ℕ) (out : List ℕ) → r ≡ length (read_out (items_of i) c.walk.values.number (length d)) → out ≡ filled (items_of i) c.walk.values.number d → leaves (value r) out ≡ read_items_of i k d
+  pub items_read : (c : ItemPlace) → StartsItems i k (Ok c) → (r : ℕ) (out : List ℕ) → r ≡ length (read_out (items_of i) c.walk.values.number (length d)) → out ≡ filled (items_of i) c.walk.values.number d → leaves (value r) out ≡ read_items_of i k d
   unfolding read_items_of
-  items_read s c h e r out er ex =
-      let b = subst (StartsItems i k) e h in
+  items_read c b r out er ex =
       ap₂ (λ (x : ℕ) (w : List ℕ). leaves (value x) w) er ex
       ∙ ap (λ (n : ℕ). leaves (value (length (read_out (items_of i) n (length d)))) (filled (items_of i) n d)) b.2
       ∙ sym (ap (λ (a : Bool). cond a read (leaves (refused 7) d)) b.0)
 
-  pub items_refused : (s : ItemsStart) (x : Refusal) → StartsItems i k s → s ≡ started.Refused x → leaves (refused (number_of x)) d ≡ read_items_of i k d
+  pub items_refused : (x : Refusal) → StartsItems i k (Err x) → leaves (refused (number_of x)) d ≡ read_items_of i k d
   unfolding read_items_of
-  items_refused s x h e =
-      let b = subst (StartsItems i k) e h in
+  items_refused x b =
       ap (λ (n : ℕ). leaves (refused n) d) b.1 ∙ sym (ap (λ (a : Bool). cond a read (leaves (refused 7) d)) b.0)

@@ -1,6 +1,7 @@
 -- What the functions that write the record of prefix sums demand and find, inside the crate: no public contract rests on it. A is the list of
 -- items. Assumes nothing.
-use Rattle.std.specs.Prelude.{◌≡◌, List, ◌++◌, ℕ, suc, ◌-◌, ◌^◌, ◌≤◌, ◌<◌, length, take, drop, replicate}
+use Rattle.errors.specs.declared.Refusal.{Refusal}
+use Rattle.std.specs.Prelude.{◌≡◌, List, ◌++◌, ℕ, suc, ◌-◌, ◌^◌, ◌≤◌, ◌<◌, length, take, drop, replicate, Ok, Err, Some, None, Result, Option}
 use Rattle.errors.specs.Answer.{refused}
 use Rattle.errors.specs.Refusal.{number_of}
 use Rattle.elias_fano_words.specs.Sizes.{start_len, sizes_of}
@@ -8,15 +9,11 @@ use Rattle.elias_fano_words.specs.declared.sizes.Sizes.{Sizes}
 use Rattle.elias_fano.specs.Finishing.{filed_in}
 use Rattle.prefix_summed_elias_fano.specs.Sums.{sum, sums, sums_image, slice_test}
 use Rattle.prefix_summed_elias_fano.specs.declared.build.Job.{Job}
-use Rattle.prefix_summed_elias_fano.specs.declared.build.TestedSlice.{TestedSlice}
-use Rattle.prefix_summed_elias_fano.specs.declared.build.TestedSlice.TheVariants as tested
-use Rattle.prefix_summed_elias_fano.specs.declared.build.Summed.{Summed}
-use Rattle.prefix_summed_elias_fano.specs.declared.build.Summed.TheVariants as summed
 
 -- the sum, if it is below 2^64 - 1
-abbrev pub SumOf : List ℕ → Summed → Type 0
-SumOf A (summed.Is s) = (s ≡ sum A) × (s < 2 ^ 64 - 1)
-SumOf A summed.TooLarge = 2 ^ 64 - 1 ≤ sum A
+abbrev pub SumOf : List ℕ → Option ℕ → Type 0
+SumOf A (Some s) = (s ≡ sum A) × (s < 2 ^ 64 - 1)
+SumOf A None = 2 ^ 64 - 1 ≤ sum A
 
 -- so many items as a record takes, with such a sum
 pub record Summable (A : List ℕ) : Type 0 where
@@ -52,6 +49,6 @@ pub record Ready (A : List ℕ) (k : ℕ) (j : Job) : Type 0 where
   pub sizes : j.sizes ≡ sizes_of (suc (sum A)) (length A)
   pub room : length (sums_image A) ≤ k
 
-abbrev pub Tests : List ℕ → ℕ → TestedSlice → Type 0
-Tests A k (tested.Passed j) = Ready A k j
-Tests A k (tested.Refused e) = slice_test A k ≡ refused (number_of e)
+abbrev pub Tests : List ℕ → ℕ → Result Job Refusal → Type 0
+Tests A k (Ok j) = Ready A k j
+Tests A k (Err e) = slice_test A k ≡ refused (number_of e)

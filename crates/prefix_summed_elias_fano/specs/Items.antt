@@ -1,17 +1,17 @@
 -- The items of an image, one after the other: what a walk over them demands and leaves, and what reading them out leaves. i is an image, or
 -- no words. Document 01, "src/int_vectors/prefix_summed_elias_fano.rs". Assumes nothing.
-use Rattle.std.specs.Prelude.{◌≡◌, List, [], ◌∷◌, Bool, true, false, ◌||◌, cond, ℕ, ◌+◌, ◌-◌, ◌<◌, eqb, length, get_or}
-use Rattle.errors.specs.Answer.{value, refused, Outcome, leaves}
+use Rattle.prefix_summed_elias_fano.specs.declared.walk.ItemPlace.{ItemPlace}
+use Rattle.errors.specs.declared.Refusal.{Refusal}
+use Rattle.std.specs.Prelude.{◌≡◌, List, [], ◌∷◌, Bool, true, false, ◌||◌, cond, ℕ, ◌+◌, ◌-◌, ◌<◌, eqb, length, get_or, Ok, Err, Result}
+use Rattle.errors.specs.Answer.{value, refused, Outcome, leaves, of_option}
 use Rattle.errors.specs.Refusal.{number_of}
 use Rattle.elias_fano.specs.declared.image.Parts.{Parts}
-use Rattle.elias_fano.specs.Accept.{accepted, parts_of, no_parts, times, of_value}
+use Rattle.elias_fano.specs.Accept.{accepted, parts_of, no_parts, times}
 use Rattle.elias_fano.specs.Ask.{read_out, filled}
 use Rattle.elias_fano_walk.specs.Walking.{WalkOver, Walked, walked}
 use Rattle.prefix_summed_elias_fano.specs.Sums.{access_of}
 use Rattle.prefix_summed_elias_fano.specs.declared.walk.ItemWalk.{ItemWalk}
 use Rattle.prefix_summed_elias_fano.specs.declared.walk.ItemStep.{ItemStep}
-use Rattle.prefix_summed_elias_fano.specs.declared.walk.ItemsStart.{ItemsStart}
-use Rattle.prefix_summed_elias_fano.specs.declared.walk.ItemsStart.TheVariants as started
 
 -- an accepted image, or no words
 unfoldable pub askable : List ℕ → Bool
@@ -44,13 +44,13 @@ pub record ItemsOver (i : List ℕ) (p : Parts) (w : ItemWalk) : Type 0 where
   pub many : p.num_pushed ≡ length (times i)
   pub ahead : w.values.number < p.num_pushed → ItemAhead i p w
 
-abbrev pub StartsItems : List ℕ → ℕ → ItemsStart → Type 0
-StartsItems i k (started.ItemPlace c) = (askable i ≡ true) × ItemsOver i c.parts c.walk × (c.walk.values.number ≡ k) × (c.parts ≡ cond (eqb (length i) 0) no_parts (parts_of i))
-StartsItems i k (started.Refused e) = (askable i ≡ false) × (number_of e ≡ 7)
+abbrev pub StartsItems : List ℕ → ℕ → Result ItemPlace Refusal → Type 0
+StartsItems i k (Ok c) = (askable i ≡ true) × ItemsOver i c.parts c.walk × (c.walk.values.number ≡ k) × (c.parts ≡ cond (eqb (length i) 0) no_parts (parts_of i))
+StartsItems i k (Err e) = (askable i ≡ false) × (number_of e ≡ 7)
 
 -- what a step leaves: its answer, and the number of the next item
 abbrev pub of_item_step : ItemStep → Walked
-of_item_step r = record { answer = of_value r.item; number = r.rest.values.number }
+of_item_step r = record { answer = of_option r.item; number = r.rest.values.number }
 
 -- ---- reading out
 

@@ -3,30 +3,22 @@
 // One pass over the items adds them up, and one files the sums. In a buffer below the limit (document 02 (vii)) the overflow of the index is counted between them, from the
 // items, before the first word is written: the k-th one of the high bits stands at the high bits of the k-th sum plus k, so the ends of each block follow from the sums.
 ghost use Rattle.std.specs.Prelude.{◌≡◌, true, ◌++◌, suc, ◌<◌, leb, length, take, drop};
-ghost use Rattle.errors.specs.Answer.{leaves};
+ghost use Rattle.errors.specs.Answer.{leaves, of_result};
 ghost use Rattle.darray_positions.specs.Index.{blocks, before};
 ghost use Rattle.elias_fano_words.specs.Image.{high_positions};
 ghost use Rattle.elias_fano_words.specs.Sizes.{low_len, sizes_of};
-ghost use Rattle.elias_fano.specs.Made.{built_answer};
 ghost use Rattle.prefix_summed_elias_fano.specs.Building.{SumOf, Summable, Part, Writing, Ready, Tests, Zeroed, filed_sums};
 ghost use Rattle.prefix_summed_elias_fano.specs.Sums.{sum as sum_of, sums, sums_image, from_slice_of};
 
 use bit_words::fill;
 use darray_positions::scan::{BLOCK_LEN, block_size, spilled};
-use elias_fano::builder::{Builder, Built, file};
+use elias_fano::builder::{Builder, file};
 use elias_fano::finish::write_image;
 use elias_fano_words::sizes::{MAX_VALS, Sizes, image_len, limit_of, of_record};
 use errors::Refusal;
 
 // The largest sum: 1 more is a universe.
 const LARGEST: u64 = u64::MAX - 1;
-
-// The sum of the items, if 1 more is still a u64.
-#[derive(Clone, Copy)]
-enum Summed {
-    Is(u64),
-    TooLarge,
-}
 
 // What nothing stands against: the sum, and the sizes of the record.
 #[derive(Clone, Copy)]
@@ -35,27 +27,20 @@ struct Job {
     sizes: Sizes,
 }
 
-// What the tests find.
-#[derive(Clone, Copy)]
-enum TestedSlice {
-    Passed(Job),
-    Refused(Refusal),
-}
-
 // The sum of all items.
-fn sum_of(items: &[u64]) -> Summed
+fn sum_of(items: &[u64]) -> Option<u64>
     ensures { SumOf items.now result }
 {
     let mut sum: u64 = 0;
     let mut i = 0;
     while i < items.len() {
         if items[i] > LARGEST - sum {
-            return Summed::TooLarge;
+            return None;
         }
         sum += items[i];
         i += 1;
     }
-    Summed::Is(sum)
+    Some(sum)
 }
 
 // The sum of the items up to the place `to`, from that up to the place `from` on.
@@ -166,41 +151,39 @@ fn write(items: &[u64], j: Job, buffer: &mut [u64]) -> usize
 }
 
 // The tests of the room for the image.
-fn test_room(items: &[u64], sum: u64, len: usize) -> TestedSlice
+fn test_room(items: &[u64], sum: u64, len: usize) -> Result<Job, Refusal>
     requires { Summable items.now × (sum ≡ sum_of items.now) }
     ensures { Tests items.now len result }
 {
     let s = of_record(sum + 1, items.len() as u64);
     if !has_room(items, s, len) {
-        return TestedSlice::Refused(Refusal::ShortBuffer);
+        return Err(Refusal::ShortBuffer);
     }
-    TestedSlice::Passed(Job { sum, sizes: s })
+    Ok(Job { sum, sizes: s })
 }
 
 // The tests of some items, with so many words lent.
-fn test(items: &[u64], len: usize) -> TestedSlice
+fn test(items: &[u64], len: usize) -> Result<Job, Refusal>
     requires { 0 < length items.now }
     ensures { Tests items.now len result }
 {
     if items.len() as u64 > MAX_VALS {
-        return TestedSlice::Refused(Refusal::TooMany);
+        return Err(Refusal::TooMany);
     }
-    match sum_of(items) {
-        Summed::Is(sum) => test_room(items, sum, len),
-        Summed::TooLarge => TestedSlice::Refused(Refusal::SumTooLarge),
-    }
+    let Some(sum) = sum_of(items) else {
+        return Err(Refusal::SumTooLarge);
+    };
+    test_room(items, sum, len)
 }
 
 // Writes the record of the prefix sums of the items to the front of the buffer, and leaves its later words. The answer is how many words
 // it has: none for no items.
-pub fn from_slice(items: &[u64], buffer: &mut [u64]) -> Built
-    ensures { leaves (built_answer result) buffer.new ≡ from_slice_of items.now buffer.old }
+pub fn from_slice(items: &[u64], buffer: &mut [u64]) -> Result<usize, Refusal>
+    ensures { leaves (of_result result) buffer.new ≡ from_slice_of items.now buffer.old }
 {
     if items.len() == 0 {
-        return Built::Words(0);
+        return Ok(0);
     }
-    match test(items, buffer.len()) {
-        TestedSlice::Passed(j) => Built::Words(write(items, j, &mut *buffer)),
-        TestedSlice::Refused(e) => Built::Refused(e),
-    }
+    let j = test(items, buffer.len())?;
+    Ok(write(items, j, &mut *buffer))
 }

@@ -3,16 +3,14 @@
 //
 // `next_item` and `take_item` are inner: they demand the parts of the image and a walk over it, as `start_items` and each step leave it.
 ghost use Rattle.std.specs.Prelude.{true, ◌≡◌, ◌∷◌, ◌++◌, suc, ◌-◌, ◌≤◌, ◌<◌, length, get_or, take as take_list, drop};
-ghost use Rattle.broadword.specs.Places.{Debruijn64};
-ghost use Rattle.errors.specs.Answer.{leaves};
-ghost use Rattle.elias_fano.specs.Accept.{accepted, parts_of, no_parts, times, of_number};
+ghost use Rattle.errors.specs.Answer.{leaves, of_result};
+ghost use Rattle.elias_fano.specs.Accept.{accepted, parts_of, no_parts, times};
 ghost use Rattle.elias_fano.specs.Ask.{read_out, filled};
 ghost use Rattle.elias_fano.specs.Opening.{Open};
 ghost use Rattle.elias_fano_walk.specs.Walking.{value_step_of};
 ghost use Rattle.prefix_summed_elias_fano.specs.Items.{items_of, ItemsOver, StartsItems, of_item_step, read_items_of};
 
-use broadword::{debruijn64_table, select_in_byte_table};
-use elias_fano::image::{Number, Opened, Parts, Value, no_parts, open, value_of};
+use elias_fano::image::{Parts, no_parts, open, value_of};
 use elias_fano_walk::read::how_many;
 use elias_fano_walk::walk::{Walk, begin, ended, take};
 use errors::Refusal;
@@ -33,12 +31,6 @@ pub struct ItemPlace {
 }
 
 #[derive(Clone, Copy)]
-pub enum ItemsStart {
-    ItemPlace(ItemPlace),
-    Refused(Refusal),
-}
-
-#[derive(Clone, Copy)]
 pub struct ItemTaken {
     pub item: u64,
     pub rest: ItemWalk,
@@ -46,13 +38,13 @@ pub struct ItemTaken {
 
 #[derive(Clone, Copy)]
 pub struct ItemStep {
-    pub item: Value,
+    pub item: Option<u64>,
     pub rest: ItemWalk,
 }
 
 // The sum of the items before the place k: the value before that with the number k.
-fn sum_before(image: &[u64], p: Parts, k: usize, table: &[u8; 2048]) -> u64
-    requires { Open image.now p table.now }
+fn sum_before(image: &[u64], p: Parts, k: usize) -> u64
+    requires { Open image.now p }
     ensures { result ≡ get_or (0 ∷ times image.now) k 0 }
 {
     if k == 0 {
@@ -61,17 +53,16 @@ fn sum_before(image: &[u64], p: Parts, k: usize, table: &[u8; 2048]) -> u64
     if k > p.num_pushed as usize {
         return 0;
     }
-    value_of(image, p, k - 1, table)
+    value_of(image, p, k - 1)
 }
 
 // The place k of an accepted image, as `begin` of the walk over its values.
 fn begin_items(image: &[u64], p: Parts, k: usize) -> ItemPlace
-    requires { (accepted image.now ≡ true) × (p ≡ parts_of image.now) }
+    requires { Open image.now p }
     ensures { ItemsOver image.now result.parts result.walk × (result.walk.values.number ≡ k) × (result.parts ≡ parts_of image.now) }
 {
-    let table = select_in_byte_table();
-    let before = sum_before(image, p, k, &table);
-    let values = begin(image, p, k, &table);
+    let before = sum_before(image, p, k);
+    let values = begin(image, p, k);
     ItemPlace {
         parts: p,
         walk: ItemWalk { before, values },
@@ -92,25 +83,23 @@ fn begin_none(k: usize) -> ItemPlace
 }
 
 // The place of the item with the number k, in time linear in the words.
-pub fn start_items(image: &[u64], k: usize) -> ItemsStart
+pub fn start_items(image: &[u64], k: usize) -> Result<ItemPlace, Refusal>
     ensures { StartsItems image.now k result }
 {
     if image.len() == 0 {
-        return ItemsStart::ItemPlace(begin_none(k));
+        return Ok(begin_none(k));
     }
-    match open(image) {
-        Opened::Image(p) => ItemsStart::ItemPlace(begin_items(image, p, k)),
-        Opened::Refused(e) => ItemsStart::Refused(e),
-    }
+    let p = open(image)?;
+    Ok(begin_items(image, p, k))
 }
 
 // The next item, which there is.
-pub fn take_item(image: &[u64], p: Parts, w: ItemWalk, places: &[u8; 64]) -> ItemTaken
-    requires { ItemsOver image.now p w × Debruijn64 places.now × (w.values.number < p.num_pushed) }
+pub fn take_item(image: &[u64], p: Parts, w: ItemWalk) -> ItemTaken
+    requires { ItemsOver image.now p w × (w.values.number < p.num_pushed) }
     ensures { ItemsOver image.now p result.rest × (result.rest.values.number ≡ suc w.values.number) × (result.item ≡ get_or (items_of image.now) w.values.number 0) }
 {
     let from = w.values;
-    let t = take(image, p, from, places);
+    let t = take(image, p, from);
     let values = t.walk;
     ItemTaken {
         item: t.value - w.before,
@@ -122,40 +111,33 @@ pub fn take_item(image: &[u64], p: Parts, w: ItemWalk, places: &[u8; 64]) -> Ite
 }
 
 // The next item, or none, and none again.
-pub fn next_item(image: &[u64], p: Parts, w: ItemWalk, places: &[u8; 64]) -> ItemStep
-    requires { ItemsOver image.now p w × Debruijn64 places.now }
+pub fn next_item(image: &[u64], p: Parts, w: ItemWalk) -> ItemStep
+    requires { ItemsOver image.now p w }
     ensures { ItemsOver image.now p result.rest × (of_item_step result ≡ value_step_of (items_of image.now) w.values.number) }
 {
     if w.values.number >= p.num_pushed as usize {
         return ItemStep {
-            item: Value::Nothing,
+            item: None,
             rest: w,
         };
     }
-    let t = take_item(image, p, w, places);
+    let t = take_item(image, p, w);
     let rest = t.rest;
     ItemStep {
-        item: Value::Is(t.item),
+        item: Some(t.item),
         rest,
     }
 }
 
 // The next `count` items are written to the first words of `out`.
-fn take_items(
-    image: &[u64],
-    p: Parts,
-    from: ItemWalk,
-    places: &[u8; 64],
-    count: usize,
-    out: &mut [u64],
-)
-    requires { ItemsOver image.now p from × Debruijn64 places.now × (count ≤ p.num_pushed - from.values.number) × (count ≤ length out.old) }
+fn take_items(image: &[u64], p: Parts, from: ItemWalk, count: usize, out: &mut [u64])
+    requires { ItemsOver image.now p from × (count ≤ p.num_pushed - from.values.number) × (count ≤ length out.old) }
     ensures { out.new ≡ take_list count (drop from.values.number (items_of image.now)) ++ drop count out.old }
 {
     let mut w = from;
     let mut i = 0;
     while i < count {
-        let t = take_item(image, p, w, places);
+        let t = take_item(image, p, w);
         out[i] = t.item;
         let rest = t.rest;
         w = rest;
@@ -168,20 +150,17 @@ fn read_on(image: &[u64], c: ItemPlace, out: &mut [u64]) -> usize
     requires { ItemsOver image.now c.parts c.walk }
     ensures { result ≡ length (read_out (items_of image.now) c.walk.values.number (length out.old)) × (out.new ≡ filled (items_of image.now) c.walk.values.number out.old) }
 {
-    let places = debruijn64_table();
     let p = c.parts;
     let from = c.walk;
     let count = how_many(p.num_pushed as usize, from.values.number, out.len());
-    take_items(image, p, from, &places, count, &mut *out);
+    take_items(image, p, from, count, &mut *out);
     count
 }
 
 // The items from the place k on; how many were written. The later words stay.
-pub fn read_items(image: &[u64], k: usize, out: &mut [u64]) -> Number
-    ensures { leaves (of_number result) out.new ≡ read_items_of image.now k out.old }
+pub fn read_items(image: &[u64], k: usize, out: &mut [u64]) -> Result<usize, Refusal>
+    ensures { leaves (of_result result) out.new ≡ read_items_of image.now k out.old }
 {
-    match start_items(image, k) {
-        ItemsStart::ItemPlace(c) => Number::Is(read_on(image, c, &mut *out)),
-        ItemsStart::Refused(e) => Number::Refused(e),
-    }
+    let c = start_items(image, k)?;
+    Ok(read_on(image, c, &mut *out))
 }

@@ -1,4 +1,5 @@
 -- What each question of an opened vector answers, case by case. Assumes nothing.
+use Rattle.std.specs.Prelude.{Option, Some, None, is_some}
 use mathlib.Core.Path.{◌≡◌, refl, sym, ap, ◌∙◌, subst}
 use mathlib.Core.List.{List, [], ◌∷◌}
 use mathlib.Core.Bool.{Bool, true, false, not, ◌||◌, cond}
@@ -9,9 +10,8 @@ use borrow.Author.Tests.{lt-ltb, le-ltb, le-leb, lt-leb}
 use lib.Dec.{eqb, leb, ltb}
 use lib.ListN.{length, get_or, take, drop}
 use lib.Seq.{take_all}
-use Rattle.errors.specs.Answer.{Answer, value, none, done, refused}
+use Rattle.errors.specs.Answer.{Answer, value, none, done, refused, of_option}
 use Rattle.broadword.specs.Fields.{flag}
-use Rattle.broadword.specs.Places.{SelectInByte}
 use Rattle.elias_fano_words.proofs.Rising.{rising_lt}
 use Rattle.elias_fano.specs.Accept.{universe, ranked, times, accepted, parts_of}
 use Rattle.elias_fano.specs.Ask.{Predecessor, Successor, Binsearch, nth, below, greatest, smallest, first_index, searched, ask, asked}
@@ -37,6 +37,10 @@ is_value (value k) = true
 is_value none = false
 is_value done = false
 is_value (refused k) = false
+
+some_value : (o : Option ℕ) → is_some o ≡ is_value (of_option o)
+some_value (Some x) = refl
+some_value None = refl
 
 first_in : (v k : ℕ) (T : List ℕ) → is_value (first_index v k T) ≡ member v T
 unfolding first_index member
@@ -91,8 +95,8 @@ module _ (i : List ℕ) (v : SArray) (o : OpenVector i v) where
     is_parts : v.parts ≡ parts_of i
     is_parts = vectors.parts_are i v o some
 
-    pub is_open : (t : List ℕ) → SelectInByte t → Open i v.parts t
-    is_open t rule = record { ok = ok; parts = is_parts; rule = rule }
+    pub is_open : Open i v.parts
+    is_open = record { ok = ok; parts = is_parts }
 
     pub ones_are : v.num_ones ≡ v.parts.num_pushed
     ones_are = vectors.many i v o ∙ sym (selecting.pushed_is i ok v.parts is_parts)
@@ -124,8 +128,8 @@ module _ (i : List ℕ) (v : SArray) (o : OpenVector i v) where
         unfolding ask
         search_is = whole T x (λ e. some (vectors.many i v o ∙ e))
 
-        pub access_by : (a : Answer) → a ≡ asked i (Binsearch x) → value (flag (is_value a)) ≡ sparse_ask u c T (Access x)
-        access_by a e = sym (within ∙ ap (λ (b : Bool). value (flag b)) (sym (first_in x 0 T) ∙ ap is_value (sym (e ∙ search_is))))
+        pub access_found : (o : Option ℕ) → of_option o ≡ asked i (Binsearch x) → value (flag (is_some o)) ≡ sparse_ask u c T (Access x)
+        access_found o e = ap (λ (b : Bool). value (flag b)) (some_value o ∙ ap is_value (e ∙ search_is) ∙ first_in x 0 T) ∙ sym within
 
         pub no_refusal : (k : ℕ) → refused k ≡ asked i (Binsearch x) → ⊥
         no_refusal k e = not_refused x 0 k T (e ∙ search_is)

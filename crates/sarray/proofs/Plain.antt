@@ -1,4 +1,5 @@
 -- Every question of what a call writes is that question of the plain bits. Assumes nothing.
+use Rattle.std.specs.Prelude.{Some, None}
 use mathlib.Core.Path.{◌≡◌, refl, sym, ap, ap₂, ◌∙◌, subst}
 use mathlib.Core.List.{List, [], ◌∷◌, ◌++◌}
 use mathlib.Core.Bool.{Bool, true, false, not, ◌||◌, cond}
@@ -9,17 +10,16 @@ use native.Mathlib.Omega.{arith}
 use borrow.Author.Tests.{lt-ltb, le-ltb, le-leb, lt-leb, eq-eqb, ne_eqb}
 use lib.Dec.{eqb, leb, ltb}
 use lib.ListN.{length, get_or}
-use Rattle.errors.specs.Answer.{Answer, value, none, refused}
+use Rattle.errors.specs.Answer.{Answer, value, none, refused, of_option}
 use Rattle.broadword.specs.Bits.{count}
 use Rattle.broadword.specs.Fields.{flag}
 use Rattle.broadword.specs.Places.{last, select}
-use Rattle.broadword.specs.declared.Found.TheVariants.{At, Nothing}
 use Rattle.broadword.proofs.Count.{count_mono}
 use Rattle.broadword.proofs.Find.{Selected, last_at, last_none, select_none}
 use Rattle.bit_words.specs.Vector.{bit_at, bit_over, invalid}
 use Rattle.bit_words.proofs.Last.{not_one}
 use Rattle.bit_words.proofs.Runs.{bit_over_le}
-use Rattle.bit_vectors.specs.Queries.{of_found, if_valid, access_of, rank1_of, select_bit_of, predecessor1_of}
+use Rattle.bit_vectors.specs.Queries.{if_valid, access_of, rank1_of, select_bit_of, predecessor1_of}
 use Rattle.darray_positions.specs.Positions.{places}
 use Rattle.darray_positions.proofs.Positions as position
 use Rattle.elias_fano_words.proofs.Bitwise.{count-one}
@@ -84,11 +84,11 @@ module _ (f : ℕ → ℕ) (bits : (i : ℕ) → f i ≤ 1) (p : ℕ) where
 -- ---- the last one
 
 module _ (f : ℕ → ℕ) (bits : (i : ℕ) → f i ≤ 1) (n : ℕ) where
-  nothing_last : count f n ≡ 0 → last f n ≡ Nothing
+  nothing_last : count f n ≡ 0 → last f n ≡ None
   nothing_last e = last_none f n (λ j h. not_one (f j) (bits j) (λ o. let a = count-one f j n o h in omega arith))
 
   -- it is the one that all others stand before
-  last_selected : (k i m : ℕ) → count f n ≡ suc k → Selected f m k i → i < n → last f n ≡ At i
+  last_selected : (k i m : ℕ) → count f n ≡ suc k → Selected f m k i → i < n → last f n ≡ Some i
   last_selected k i m e s h =
       last_at f n i h s.one (λ j a b. not_one (f j) (bits j) (λ o.
       let x = count-one f i j s.one a in
@@ -135,19 +135,19 @@ module _ (ws : List ℕ) (len : ℕ) (c : Bool) (ok : invalid ws len ≡ false) 
       by (yes h) = no_of (ltb len p) none (value (below p S)) (le-ltb len p h) ∙ ap value (below_is p h ∙ same_count p) ∙ sym (yes_of (leb p len) (value (count (bit_at ws) p)) none (le-leb p len h))
       by (no h) = let g = lt_of_not-le h in simp (lt-ltb len p g, lt-leb p len g)
 
-  nth_is : (k : ℕ) → nth S k ≡ of_found (select f len k)
+  nth_is : (k : ℕ) → nth S k ≡ of_option (select f len k)
   unfolding nth
   nth_is k = by (dec_lt k (length S))
     where
-      by : Dec (k < length S) → cond (ltb k (length S)) (value (get_or S k 0)) none ≡ of_found (select f len k)
-      by (yes h) = yes_of (ltb k (length S)) (value (get_or S k 0)) none (lt-ltb k (length S) h) ∙ sym (ap of_found (position.place_select f bits len k (subst (λ (n : ℕ). k < n) (ones.many ws len) h)))
-      by (no h) = let g : length S ≤ k = omega (arith, lt_of_not-le h) in no_of (ltb k (length S)) (value (get_or S k 0)) none (le-ltb k (length S) g) ∙ sym (ap of_found (select_none f len k (subst (λ (n : ℕ). n ≤ k) (ones.many ws len) g)))
+      by : Dec (k < length S) → cond (ltb k (length S)) (value (get_or S k 0)) none ≡ of_option (select f len k)
+      by (yes h) = yes_of (ltb k (length S)) (value (get_or S k 0)) none (lt-ltb k (length S) h) ∙ sym (ap of_option (position.place_select f bits len k (subst (λ (n : ℕ). k < n) (ones.many ws len) h)))
+      by (no h) = let g : length S ≤ k = omega (arith, lt_of_not-le h) in no_of (ltb k (length S)) (value (get_or S k 0)) none (le-ltb k (length S) g) ∙ sym (ap of_option (select_none f len k (subst (λ (n : ℕ). n ≤ k) (ones.many ws len) g)))
 
   select_is : (k : ℕ) → nth S k ≡ select_bit_of ws len true k
   unfolding select_bit_of
-  select_is k = nth_is k ∙ sym (valid (of_found (select f len k)))
+  select_is k = nth_is k ∙ sym (valid (of_option (select f len k)))
 
-  greatest_is : (p : ℕ) → p < len → greatest p S ≡ of_found (last f (p + 1))
+  greatest_is : (p : ℕ) → p < len → greatest p S ≡ of_option (last f (p + 1))
   greatest_is p h = by (count f (suc p)) refl
     where
       far : below (suc p) S ≡ count f (suc p)
@@ -156,13 +156,13 @@ module _ (ws : List ℕ) (len : ℕ) (c : Bool) (ok : invalid ws len ≡ false) 
       next : p + 1 ≡ suc p
       next = omega arith
 
-      by : (n : ℕ) → count f (suc p) ≡ n → greatest p S ≡ of_found (last f (p + 1))
-      by zero e = below-law.greatest_none len p S (ones.rises ws len) (far ∙ e) ∙ sym (ap of_found (ap (last f) next ∙ nothing_last f bits (suc p) e))
+      by : (n : ℕ) → count f (suc p) ≡ n → greatest p S ≡ of_option (last f (p + 1))
+      by zero e = below-law.greatest_none len p S (ones.rises ws len) (far ∙ e) ∙ sym (ap of_option (ap (last f) next ∙ nothing_last f bits (suc p) e))
       by (suc k) e =
           let m = count_mono f (suc p) len h in
           let s = ones.has ws len k (let q = ones.many ws len in omega arith) in
           let g : get_or S k 0 < suc p = position.below f (get_or S k 0) (suc p) (omega (arith, s.before)) in
-          below-law.greatest_some len p S (ones.rises ws len) k (far ∙ e) ∙ sym (ap of_found (ap (last f) next ∙ last_selected f bits (suc p) k (get_or S k 0) len e s g))
+          below-law.greatest_some len p S (ones.rises ws len) k (far ∙ e) ∙ sym (ap of_option (ap (last f) next ∙ last_selected f bits (suc p) k (get_or S k 0) len e s g))
 
   -- answers that agree below the length, where from it on there is none
   inside : (p : ℕ) (a b : Answer) → (p < len → a ≡ b) → cond (leb len p) none a ≡ cond (leb len p) none b
@@ -176,7 +176,7 @@ module _ (ws : List ℕ) (len : ℕ) (c : Bool) (ok : invalid ws len ≡ false) 
   unfolding sparse_ask predecessor1_of bit_over
   predecessor_is p =
       ap (cond (not c) (refused 8)) (inside p _ _ (λ h.
-      greatest_is p h ∙ ap (λ (n : ℕ). of_found (last f n)) (let e : p + 1 ≡ min (p + 1) len = omega arith in e) ∙ sym (valid (of_found (last f (min (p + 1) len))))))
+      greatest_is p h ∙ ap (λ (n : ℕ). of_option (last f n)) (let e : p + 1 ≡ min (p + 1) len = omega arith in e) ∙ sym (valid (of_option (last f (min (p + 1) len))))))
 
   smallest_is : (p : ℕ) → p < len → smallest p S ≡ nth S (below p S)
   unfolding nth

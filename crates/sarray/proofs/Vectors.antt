@@ -1,4 +1,5 @@
 -- What an opened vector has: the parts of an accepted image, or no words and no times. Assumes nothing.
+use Rattle.std.specs.Prelude.{Ok, Err, Result}
 use mathlib.Core.Path.{◌≡◌, refl, sym, ap, ap₂, ◌∙◌, subst}
 use mathlib.Core.List.{List}
 use mathlib.Core.Bool.{Bool, true, false, ◌&&◌, ◌||◌, cond}
@@ -13,18 +14,14 @@ use Rattle.errors.specs.declared.Refusal.{Refusal}
 use Rattle.broadword.specs.Fields.{flag}
 use Rattle.broadword.proofs.Truth.{and_true}
 use Rattle.elias_fano_words.specs.Times.{unrepeated_if}
-use Rattle.elias_fano.specs.declared.image.Opened.{Opened}
-use Rattle.elias_fano.specs.declared.image.Opened.TheVariants as opened
 use Rattle.elias_fano.specs.declared.image.Parts.{Parts}
-use Rattle.elias_fano.specs.Accept.{universe, declared, pushed, ranked, times, accepted, accepted_if, parts_by, parts_of, no_parts, of_opened, open_if}
+use Rattle.elias_fano.specs.Accept.{unopened, universe, declared, pushed, ranked, times, accepted, accepted_if, parts_by, parts_of, no_parts, of_opened, open_if}
 use Rattle.elias_fano.proofs.Accepting.{found, flag_eqb}
 use Rattle.elias_fano.proofs.Answers.{image_by, refused_by_lem}
 use Rattle.elias_fano.proofs.Images.{flag_one, no_times}
 use Rattle.elias_fano.proofs.Selecting as selecting
 use Rattle.sarray.specs.Ask.{SparseQuestion, is_vector, sparse_ask, sparse_query}
 use Rattle.sarray.specs.declared.vector.SArray.{SArray}
-use Rattle.sarray.specs.declared.vector.Vector.{Vector}
-use Rattle.sarray.specs.declared.vector.Vector.TheVariants as found_as
 use Rattle.sarray.specs.Opened.{vector_of, vector, no_vector, of_vector, sparse_open, OpenVector}
 
 -- ---- words
@@ -86,12 +83,12 @@ module _ (i : List ℕ) (len : ℕ) (c : Bool) where
 
   module _ (some : length i ≡ 0 → ⊥) where
     -- opening refuses the image
-    pub opens_refused : (r : Opened) (x : Refusal) → of_opened r ≡ open_if true i → r ≡ opened.Refused x → no_vector 7 ≡ sparse_open len c i
-    opens_refused r x er e =
-        let d = refused_by_lem (accepted_if true i) (number_of x) (parts_of i) (sym (ap of_opened e) ∙ er) in
-        sym (by_vector (words_are len c i some ∙ ap (λ (b : Bool). b && fits len c i) d.0))
+    pub opens_refused : (x : ℕ) → unopened x ≡ open_if true i → no_vector x ≡ sparse_open len c i
+    opens_refused x e =
+        let d = refused_by_lem (accepted_if true i) x (parts_of i) e in
+        ap no_vector d.1 ∙ sym (by_vector (words_are len c i some ∙ ap (λ (b : Bool). b && fits len c i) d.0))
 
-    module _ (r : Opened) (p : Parts) (er : of_opened r ≡ open_if true i) (e : r ≡ opened.Image p) where
+    module _ (r : Result Parts Refusal) (p : Parts) (er : of_opened r ≡ open_if true i) (e : r ≡ Ok p) where
       is_open : (accepted_if true i ≡ true) × (p ≡ parts_of i)
       is_open = image_by (accepted_if true i) p (parts_of i) (sym (ap of_opened e) ∙ er)
 
@@ -147,8 +144,8 @@ module _ (i : List ℕ) (len : ℕ) (c : Bool) where
   no_vector_by true k u e = let z : ◌≡◌ {A = ℕ} 0 1 = cc in absurd (omega arith)
   no_vector_by false k u e = (refl, cc)
 
-  module _ (r : Vector) (er : of_vector r ≡ sparse_open len c i) where
-    module _ (v : SArray) (e : r ≡ found_as.Opened v) where
+  module _ (r : Result SArray Refusal) (er : of_vector r ≡ sparse_open len c i) where
+    module _ (v : SArray) (e : r ≡ Ok v) where
       pub told : (is_vector len c i ≡ true) × (v ≡ vector_of len c i)
       unfolding sparse_open
       told = vector_by (is_vector len c i) v (vector_of len c i) (sym (ap of_vector e) ∙ er)
@@ -162,11 +159,11 @@ module _ (i : List ℕ) (len : ℕ) (c : Bool) where
           ea ∙ ap (λ (u : SArray). sparse_ask u.num_bits u.has_rank (times i) q) told.1
           ∙ sym (ap (λ (b : Bool). cond b (sparse_ask len c (times i) q) (refused 7)) told.0)
 
-    pub not_vector : (x : Refusal) → r ≡ found_as.Refused x → (is_vector len c i ≡ false) × (number_of x ≡ 7)
+    pub not_vector : (x : Refusal) → r ≡ Err x → (is_vector len c i ≡ false) × (number_of x ≡ 7)
     unfolding sparse_open
     not_vector x e = no_vector_by (is_vector len c i) (number_of x) (vector_of len c i) (sym (ap of_vector e) ∙ er)
 
-    pub query_refused : (x : Refusal) → r ≡ found_as.Refused x → (q : SparseQuestion) → refused (number_of x) ≡ sparse_query len c i q
+    pub query_refused : (x : Refusal) → r ≡ Err x → (q : SparseQuestion) → refused (number_of x) ≡ sparse_query len c i q
     unfolding sparse_query
     query_refused x e q =
         let d = not_vector x e in

@@ -1,10 +1,9 @@
 -- What opening a vector tells, and what the questions of an opened one demand. i is an image, or no words. Assumes nothing.
-use Rattle.std.specs.Prelude.{◌≡◌, List, Bool, true, cond, ℕ, eqb, length}
+use Rattle.errors.specs.declared.Refusal.{Refusal}
+use Rattle.std.specs.Prelude.{◌≡◌, List, Bool, true, cond, ℕ, eqb, length, Ok, Err, Result}
 use Rattle.errors.specs.Refusal.{number_of}
 use Rattle.elias_fano.specs.Accept.{parts_of, no_parts, times}
 use Rattle.sarray.specs.declared.vector.SArray.{SArray}
-use Rattle.sarray.specs.declared.vector.Vector.{Vector}
-use Rattle.sarray.specs.declared.vector.Vector.TheVariants as found
 use Rattle.sarray.specs.Ask.{is_vector}
 
 -- the vector of that length and choice; one of zeros has no image, and no parts
@@ -16,9 +15,9 @@ pub data SparseOpening : Type 0 where
   vector : SArray → SparseOpening
   no_vector : ℕ → SparseOpening
 
-abbrev pub of_vector : Vector → SparseOpening
-of_vector (found.Opened v) = vector v
-of_vector (found.Refused e) = no_vector (number_of e)
+abbrev pub of_vector : Result SArray Refusal → SparseOpening
+of_vector (Ok v) = vector v
+of_vector (Err e) = no_vector (number_of e)
 
 unfoldable pub sparse_open : ℕ → Bool → List ℕ → SparseOpening
 sparse_open len c i = cond (is_vector len c i) (vector (vector_of len c i)) (no_vector 7)

@@ -3,7 +3,7 @@ ghost use Rattle.std.specs.Prelude.{◌≡◌, ◌&&◌, eqb};
 ghost use Rattle.broadword.specs.Fields.{flag};
 ghost use Rattle.sarray.specs.Opened.{of_vector, sparse_open};
 
-use elias_fano::image::{Opened, Parts, no_parts, open_if};
+use elias_fano::image::{Parts, no_parts, open_if};
 use errors::Refusal;
 
 // A vector as opening finds it: its length, how many ones it has, the parts of its image, which one of zeros does not have, and its choice.
@@ -15,45 +15,31 @@ pub struct SArray {
     pub has_rank: bool,
 }
 
-#[derive(Clone, Copy)]
-pub enum Vector {
-    Opened(SArray),
-    Refused(Refusal),
-}
-
 // Whether the parts are those of a vector of so many bits, with such a choice: every value that is declared is there.
 fn is_whole(p: Parts, len: usize, rank: bool) -> bool
     ensures { result ≡ (eqb p.universe len && (eqb (flag p.rank) (flag rank) && eqb p.num_pushed p.num_vals)) }
 {
-    if p.universe != len as u64 {
-        return false;
-    }
-    if p.rank as u64 != rank as u64 {
-        return false;
-    }
-    p.num_pushed == p.num_vals
+    p.universe == len as u64 && p.rank == rank && p.num_pushed == p.num_vals
 }
 
 // Decides whether the words are those of a vector of `len` bits, with an index for rank if `rank` says so, and tells where their parts stand. No words
 // are a vector of zeros.
-pub fn open(image: &[u64], len: usize, rank: bool) -> Vector
+pub fn open(image: &[u64], len: usize, rank: bool) -> Result<SArray, Refusal>
     ensures { of_vector result ≡ sparse_open len rank image.now }
 {
     if image.len() == 0 {
-        return Vector::Opened(SArray {
+        return Ok(SArray {
             num_bits: len,
             num_ones: 0,
             parts: no_parts(),
             has_rank: rank,
         });
     }
-    let Opened::Image(p) = open_if(image, true) else {
-        return Vector::Refused(Refusal::Invalid);
-    };
+    let p = open_if(image, true)?;
     if !is_whole(p, len, rank) {
-        return Vector::Refused(Refusal::Invalid);
+        return Err(Refusal::Invalid);
     }
-    Vector::Opened(SArray {
+    Ok(SArray {
         num_bits: len,
         num_ones: p.num_pushed as usize,
         parts: p,

@@ -1,4 +1,5 @@
 -- How many times of a list are in the windows: by the times from one on and to the span's end, by windows in order, and the answers. T is the list of times, i an image. Assumes nothing.
+use Rattle.std.specs.Prelude.{Err, Result}
 use mathlib.Core.Path.{◌≡◌, refl, sym, ap, ap₂, ◌∙◌, subst}
 use mathlib.Core.List.{List, [], ◌∷◌}
 use mathlib.Core.Bool.{Bool, true, false, ◌&&◌, and-false}
@@ -16,10 +17,8 @@ use Rattle.errors.specs.declared.Refusal.{Refusal}
 use Rattle.broadword.specs.Fields.{flag}
 use Rattle.broadword.proofs.Truth.{flag_le}
 use Rattle.elias_fano_words.specs.Times.{rising}
-use Rattle.elias_fano.specs.declared.image.Opened.{Opened}
-use Rattle.elias_fano.specs.declared.image.Opened.TheVariants as opened
 use Rattle.elias_fano.specs.declared.image.Parts.{Parts}
-use Rattle.elias_fano.specs.Accept.{times, accepted, parts_of, of_opened, open_of}
+use Rattle.elias_fano.specs.Accept.{times, accepted, parts_of, unopened, open_of}
 use Rattle.elias_fano.proofs.Answers as answers
 use Rattle.elias_fano.proofs.Images as images
 use Rattle.elias_fano.proofs.Selecting as selecting
@@ -157,6 +156,6 @@ module _ (i ws : List ℕ) (s e : ℕ) where
   unfolding count_of
   count_opened h a q = q ∙ sym (simp h)
 
-  pub count_refused : (r : Opened) (x : Refusal) → of_opened r ≡ open_of i → r ≡ opened.Refused x → refused (number_of x) ≡ count_of i ws s e
+  pub count_refused : (x : ℕ) → unopened x ≡ open_of i → refused x ≡ count_of i ws s e
   unfolding count_of
-  count_refused r x er q = let d = answers.not_open i r x er q in ap refused d.1 ∙ sym (simp d.0)
+  count_refused x q = let d = answers.not_open i x q in ap refused d.1 ∙ sym (simp d.0)

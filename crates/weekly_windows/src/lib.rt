@@ -6,17 +6,17 @@
 #![tactic(auto)]
 
 ghost use Rattle.std.specs.Prelude.{◌≡◌, true, take as take_list, drop};
-ghost use Rattle.elias_fano.specs.Accept.{times, of_number};
-ghost use Rattle.elias_fano_walk.specs.Searching.{Searchable};
-ghost use Rattle.elias_fano_walk.specs.Walking.{Walkable, WalkOver};
+ghost use Rattle.errors.specs.Answer.{of_result};
+ghost use Rattle.elias_fano.specs.Accept.{times};
+ghost use Rattle.elias_fano.specs.Opening.{Open};
+ghost use Rattle.elias_fano_walk.specs.Walking.{WalkOver};
 ghost use Rattle.weekly_windows.specs.Ordering.{Ordered, PartStarts};
 ghost use Rattle.weekly_windows.specs.Windows.{are_windows, count_in, count_answer, count_of};
 
 mod order;
 
 use crate::order::{are_windows, is_inside, order as put_in_order, part_starts};
-use broadword::{debruijn64_table, select_in_byte_table};
-use elias_fano::image::{Number, Opened, Parts, open};
+use elias_fano::image::{Parts, open};
 use elias_fano_walk::search::begin_from;
 use elias_fano_walk::walk::{Walk, take};
 use errors::Refusal;
@@ -30,16 +30,15 @@ fn count_on(
     cuts: &[u64; 65],
     n: usize,
     first: &[usize; 148],
-    places: &[u8; 64],
 ) -> usize
-    requires { Walkable image.now p places.now × WalkOver image.now p from × Ordered cuts.now n × PartStarts cuts.now n first.now }
+    requires { Open image.now p × WalkOver image.now p from × Ordered cuts.now n × PartStarts cuts.now n first.now }
     ensures { result ≡ count_in (take_list n cuts.now) 0 e (drop from.number (times image.now)) }
 {
     let end = p.num_pushed as usize;
     let mut w = from;
     let mut count: usize = 0;
     while w.number < end {
-        let t = take(image, p, w, places);
+        let t = take(image, p, w);
         let x = t.value;
         if e <= x {
             return count;
@@ -52,22 +51,15 @@ fn count_on(
 }
 
 // The same with the windows as they were handed in.
-fn count_within(
-    image: &[u64],
-    p: Parts,
-    from: Walk,
-    e: u64,
-    windows: &[u64],
-    places: &[u8; 64],
-) -> usize
-    requires { Walkable image.now p places.now × WalkOver image.now p from × (are_windows windows.now ≡ true) }
+fn count_within(image: &[u64], p: Parts, from: Walk, e: u64, windows: &[u64]) -> usize
+    requires { Open image.now p × WalkOver image.now p from × (are_windows windows.now ≡ true) }
     ensures { result ≡ count_in windows.now 0 e (drop from.number (times image.now)) }
 {
     let mut cuts = [0u64; 65];
     let n = put_in_order(windows, &mut cuts);
     let mut first = [0usize; 148];
     part_starts(&cuts, n, &mut first);
-    count_on(image, p, from, e, &cuts, n, &first, places)
+    count_on(image, p, from, e, &cuts, n, &first)
 }
 
 // How many values from s on and below e are in the windows, of an opened image; 17 where the words are no windows.
@@ -77,32 +69,24 @@ pub fn count_opened(
     windows: &[u64],
     s: u64,
     e: u64,
-    table: &[u8; 2048],
-    places: &[u8; 64],
-) -> Number
-    requires { Searchable image.now p table.now places.now }
-    ensures { of_number result ≡ count_answer (times image.now) windows.now s e }
+) -> Result<usize, Refusal>
+    requires { Open image.now p }
+    ensures { of_result result ≡ count_answer (times image.now) windows.now s e }
 {
     if !are_windows(windows) {
-        return Number::Refused(Refusal::InvalidWindows);
+        return Err(Refusal::InvalidWindows);
     }
     if e <= s {
-        return Number::Is(0);
+        return Ok(0);
     }
-    let from = begin_from(image, p, s, table, places);
-    Number::Is(count_within(image, p, from, e, windows, places))
+    let from = begin_from(image, p, s);
+    Ok(count_within(image, p, from, e, windows))
 }
 
 // How many values from s on and below e are in the windows.
-pub fn count(image: &[u64], windows: &[u64], s: u64, e: u64) -> Number
-    ensures { of_number result ≡ count_of image.now windows.now s e }
+pub fn count(image: &[u64], windows: &[u64], s: u64, e: u64) -> Result<usize, Refusal>
+    ensures { of_result result ≡ count_of image.now windows.now s e }
 {
-    match open(image) {
-        Opened::Image(p) => {
-            let table = select_in_byte_table();
-            let places = debruijn64_table();
-            count_opened(image, p, windows, s, e, &table, &places)
-        }
-        Opened::Refused(x) => Number::Refused(x),
-    }
+    let p = open(image)?;
+    count_opened(image, p, windows, s, e)
 }

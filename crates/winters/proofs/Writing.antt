@@ -1,4 +1,6 @@
 -- The words of spans: four are written at each step, and they are those of the definition in the end; and what a whole call leaves. T is a list of times, ss the seconds. Assumes nothing.
+use Rattle.elias_fano.specs.declared.image.Parts.{Parts}
+use Rattle.std.specs.Prelude.{Err, Result}
 use mathlib.Core.Path.{◌≡◌, refl, sym, ap, ap₂, ◌∙◌}
 use mathlib.Core.List.{List, [], ◌∷◌, ◌++◌, append_assoc, append-nil}
 use mathlib.Core.Bool.{Bool, true, cond}
@@ -11,9 +13,7 @@ use lib.Seq.{length-take-le, drop-cons, drop-drop, take_at, drop_at, sets-eq}
 use Rattle.errors.specs.Answer.{value, refused, Outcome, leaves}
 use Rattle.errors.specs.Refusal.{number_of}
 use Rattle.errors.specs.declared.Refusal.{Refusal}
-use Rattle.elias_fano.specs.declared.image.Opened.{Opened}
-use Rattle.elias_fano.specs.declared.image.Opened.TheVariants as opened
-use Rattle.elias_fano.specs.Accept.{times, accepted, of_opened, open_of}
+use Rattle.elias_fano.specs.Accept.{times, accepted, unopened, open_of}
 use Rattle.elias_fano.proofs.Answers as answers
 use Rattle.winters.specs.declared.Summary.{Summary}
 use Rattle.winters.specs.Winters.{in_span, summary_of, words_of, span_words, compare_answer, compare_of}
@@ -108,6 +108,6 @@ module _ (i ss d : List ℕ) where
   unfolding compare_of
   compare_opened h o q = q ∙ sym (simp h)
 
-  pub compare_refused : (r : Opened) (x : Refusal) → of_opened r ≡ open_of i → r ≡ opened.Refused x → leaves (refused (number_of x)) d ≡ compare_of i ss d
+  pub compare_refused : (x : ℕ) → unopened x ≡ open_of i → leaves (refused x) d ≡ compare_of i ss d
   unfolding compare_of
-  compare_refused r x er q = let e = answers.not_open i r x er q in ap (λ (k : ℕ). leaves (refused k) d) e.1 ∙ sym (simp e.0)
+  compare_refused x q = let e = answers.not_open i x q in ap (λ (k : ℕ). leaves (refused k) d) e.1 ∙ sym (simp e.0)

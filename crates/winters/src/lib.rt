@@ -5,15 +5,14 @@
 #![tactic(auto)]
 
 ghost use Rattle.std.specs.Prelude.{true, ◌≡◌, [], ◌∷◌, ◌++◌, ◌+◌, ◌-◌, ◌*◌, ◌≤◌, min, length, take as take_list, drop};
-ghost use Rattle.errors.specs.Answer.{leaves};
-ghost use Rattle.elias_fano.specs.Accept.{accepted, parts_of, times, of_number};
-ghost use Rattle.elias_fano_walk.specs.Searching.{Searchable};
-ghost use Rattle.elias_fano_walk.specs.Walking.{Walkable, WalkOver};
+ghost use Rattle.errors.specs.Answer.{leaves, of_result};
+ghost use Rattle.elias_fano.specs.Accept.{accepted, times};
+ghost use Rattle.elias_fano.specs.Opening.{Open};
+ghost use Rattle.elias_fano_walk.specs.Walking.{WalkOver};
 ghost use Rattle.winters.specs.Adding.{NoneBelow, with_others};
 ghost use Rattle.winters.specs.Winters.{in_span, summary_of, words_of, span_words, compare_answer, compare_of};
 
-use broadword::{debruijn64_table, select_in_byte_table};
-use elias_fano::image::{Number, Opened, Parts, open};
+use elias_fano::image::{Parts, open};
 use elias_fano_walk::search::begin_from;
 use elias_fano_walk::walk::{Walk, take};
 use errors::Refusal;
@@ -67,15 +66,8 @@ fn with_others(first: u64, n: usize, last: u64, gap: u64) -> Summary
 }
 
 // The summary of the value `first` and of those from the walk's on and below e. The gap begins with e, which is above every gap.
-fn summarize_after(
-    image: &[u64],
-    p: Parts,
-    first: u64,
-    from: Walk,
-    e: u64,
-    places: &[u8; 64],
-) -> Summary
-    requires { Walkable image.now p places.now × WalkOver image.now p from × NoneBelow first (drop from.number (times image.now)) }
+fn summarize_after(image: &[u64], p: Parts, first: u64, from: Walk, e: u64) -> Summary
+    requires { Open image.now p × WalkOver image.now p from × NoneBelow first (drop from.number (times image.now)) }
     ensures { result ≡ summary_of (first ∷ in_span 0 e (drop from.number (times image.now))) }
 {
     let end = p.num_pushed as usize;
@@ -84,7 +76,7 @@ fn summarize_after(
     let mut last = first;
     let mut gap = e;
     while w.number < end {
-        let t = take(image, p, w, places);
+        let t = take(image, p, w);
         let x = t.value;
         if e <= x {
             return with_others(first, w.number - start, last, gap);
@@ -98,36 +90,29 @@ fn summarize_after(
 }
 
 // The summary of the values from the walk's on and below e.
-fn summarize_on(image: &[u64], p: Parts, from: Walk, e: u64, places: &[u8; 64]) -> Summary
-    requires { Walkable image.now p places.now × WalkOver image.now p from }
+fn summarize_on(image: &[u64], p: Parts, from: Walk, e: u64) -> Summary
+    requires { Open image.now p × WalkOver image.now p from }
     ensures { result ≡ summary_of (in_span 0 e (drop from.number (times image.now))) }
 {
     if p.num_pushed as usize <= from.number {
         return nothing();
     }
-    let t = take(image, p, from, places);
+    let t = take(image, p, from);
     let first = t.value;
     if e <= first {
         return nothing();
     }
     let rest = t.walk;
-    summarize_after(image, p, first, rest, e, places)
+    summarize_after(image, p, first, rest, e)
 }
 
 // The summary of the values from s on and below e.
-fn summarize(
-    image: &[u64],
-    p: Parts,
-    s: u64,
-    e: u64,
-    table: &[u8; 2048],
-    places: &[u8; 64],
-) -> Summary
-    requires { Searchable image.now p table.now places.now }
+fn summarize(image: &[u64], p: Parts, s: u64, e: u64) -> Summary
+    requires { Open image.now p }
     ensures { result ≡ summary_of (in_span s e (times image.now)) }
 {
-    let from = begin_from(image, p, s, table, places);
-    summarize_on(image, p, from, e, places)
+    let from = begin_from(image, p, s);
+    summarize_on(image, p, from, e)
 }
 
 // The summary's four words, from the word `at` on.
@@ -142,21 +127,13 @@ fn put(out: &mut [u64], at: usize, s: Summary)
 }
 
 // Four words for each of the first `count` spans; the later words stay.
-fn compare_all(
-    image: &[u64],
-    p: Parts,
-    seconds: &[u64],
-    count: usize,
-    out: &mut [u64],
-    table: &[u8; 2048],
-    places: &[u8; 64],
-)
-    requires { Searchable image.now p table.now places.now × (count ≡ length seconds.now - 1) × (4 * count ≤ length out.old) }
+fn compare_all(image: &[u64], p: Parts, seconds: &[u64], count: usize, out: &mut [u64])
+    requires { Open image.now p × (count ≡ length seconds.now - 1) × (4 * count ≤ length out.old) }
     ensures { out.new ≡ span_words (times image.now) seconds.now ++ drop (4 * count) out.old }
 {
     let mut i: usize = 0;
     while i < count {
-        let s = summarize(image, p, seconds[i], seconds[i + 1], table, places);
+        let s = summarize(image, p, seconds[i], seconds[i + 1]);
         put(&mut *out, 4 * i, s);
         i += 1;
     }
@@ -170,26 +147,27 @@ fn num_spans(seconds: usize) -> usize
 }
 
 // The spans of an accepted image; the tables are made here.
-fn compare_accepted(image: &[u64], p: Parts, seconds: &[u64], out: &mut [u64]) -> Number
-    requires { (accepted image.now ≡ true) × (p ≡ parts_of image.now) }
-    ensures { leaves (of_number result) out.new ≡ compare_answer (times image.now) seconds.now out.old }
+fn compare_accepted(
+    image: &[u64],
+    p: Parts,
+    seconds: &[u64],
+    out: &mut [u64],
+) -> Result<usize, Refusal>
+    requires { Open image.now p }
+    ensures { leaves (of_result result) out.new ≡ compare_answer (times image.now) seconds.now out.old }
 {
     let count = num_spans(seconds.len());
     if out.len() / 4 < count {
-        return Number::Refused(Refusal::ShortBuffer);
+        return Err(Refusal::ShortBuffer);
     }
-    let table = select_in_byte_table();
-    let places = debruijn64_table();
-    compare_all(image, p, seconds, count, &mut *out, &table, &places);
-    Number::Is(count)
+    compare_all(image, p, seconds, count, &mut *out);
+    Ok(count)
 }
 
 // The spans that the seconds cut, four words each; how many were written. The later words stay.
-pub fn compare(image: &[u64], seconds: &[u64], out: &mut [u64]) -> Number
-    ensures { leaves (of_number result) out.new ≡ compare_of image.now seconds.now out.old }
+pub fn compare(image: &[u64], seconds: &[u64], out: &mut [u64]) -> Result<usize, Refusal>
+    ensures { leaves (of_result result) out.new ≡ compare_of image.now seconds.now out.old }
 {
-    match open(image) {
-        Opened::Image(p) => compare_accepted(image, p, seconds, &mut *out),
-        Opened::Refused(e) => Number::Refused(e),
-    }
+    let p = open(image)?;
+    compare_accepted(image, p, seconds, &mut *out)
 }

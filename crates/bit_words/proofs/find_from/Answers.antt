@@ -1,12 +1,12 @@
 -- `bit_words::find_from` meets its contract.
 -- Assumes nothing.
+use Rattle.std.specs.Prelude.{Some}
 use mathlib.Core.Path.{◌≡◌, sym, subst}
 use Prim.Native.Nat.{ℕ, ◌*◌, ◌/◌, ◌%◌, ◌^◌, ◌<◌}
 use native.Mathlib.Omega.{arith}
 use lib.Arith.{lt_of_le-ne}
 use lib.ListN.{get_or}
 use Rattle.broadword.specs.Bits.{bit, ones}
-use Rattle.broadword.specs.declared.Found.TheVariants.{At}
 use Rattle.broadword.proofs.Find.{selected}
 use Rattle.bit_words.specs.Vector.{word_over}
 use Rattle.bit_words.proofs.Runs.{left_lt}
@@ -18,7 +18,7 @@ select_in_word_within-requires c =
     let from : ℕ = c.args.from in
     let x : ℕ = (c.word_over.result / 2 ^ (from % 64) * 2 ^ (from % 64)) % 2 ^ 64 in
     let fewer : c.args.k < ones (x) 64 = subst (λ (n : ℕ). c.args.k < n) c.popcount-ones.ensures c.if-k-ones.true in
-    (c.requires.rule, fewer)
+    (fewer)
 
 pub overflow_add-result : goal.overflow_add-result
 overflow_add-result c =
@@ -35,7 +35,7 @@ returns-then-k-ones c =
     let x : ℕ = (c.word_over.result / 2 ^ (from % 64) * 2 ^ (from % 64)) % 2 ^ 64 in
     let rest : x ≡ word_over c.args.over_one (get_or c.args.words.now (from / 64) 0) / 2 ^ (from % 64) * 2 ^ (from % 64) = first_is c.args.over_one c.args.words.now (λ i. (c.shared_slice_known-1.given i).fits) from c.word_over.result c.word_over.ensures in
     let fewer : c.args.k < ones (x) 64 = subst (λ (n : ℕ). c.args.k < n) c.popcount-ones.ensures c.if-k-ones.true in
-    find_first c.args.over_one c.args.words.now (λ i. (c.shared_slice_known-1.given i).fits) c.args.from (x) (rest) c.args.used c.args.k (At c.select_in_word_within.result) c.requires.start (fewer) (sym c.select_in_word_within.ensures)
+    find_first c.args.over_one c.args.words.now (λ i. (c.shared_slice_known-1.given i).fits) c.args.from (x) (rest) c.args.used c.args.k (Some c.select_in_word_within.result) c.requires.start (fewer) (sym c.select_in_word_within.ensures)
 
 pub returns-then-word-used : goal.returns-then-word-used
 returns-then-word-used c =
@@ -48,7 +48,7 @@ pub select_in_word_within-requires-2 : goal.select_in_word_within-requires-2
 select_in_word_within-requires-2 c =
     let in_used : c.skip_words-spot.result.word < c.args.used = lt_of_le-ne c.skip_words-spot.ensures.upto c.if-word-used.false in
     let k = c.skip_words-spot in
-    (c.requires.rule, left_lt c.args.over_one c.args.words.now (λ i. (c.shared_slice_known-1.given i).fits) k.result.word k.result.left c.word_over-bits.result c.word_over-bits.ensures (k.ensures.here (in_used)))
+    (left_lt c.args.over_one c.args.words.now (λ i. (c.shared_slice_known-1.given i).fits) k.result.word k.result.left c.word_over-bits.result c.word_over-bits.ensures (k.ensures.here (in_used)))
 
 pub overflow_add-result-2 : goal.overflow_add-result-2
 overflow_add-result-2 c =
@@ -65,4 +65,4 @@ returns c =
     let rest : x ≡ word_over c.args.over_one (get_or c.args.words.now (from / 64) 0) / 2 ^ (from % 64) * 2 ^ (from % 64) = first_is c.args.over_one c.args.words.now (λ i. (c.shared_slice_known-1.given i).fits) from c.word_over.result c.word_over.ensures in
     let in_used : c.skip_words-spot.result.word < c.args.used = lt_of_le-ne c.skip_words-spot.ensures.upto c.if-word-used.false in
     let k = c.skip_words-spot in
-    find_word c.args.over_one c.args.words.now (λ i. (c.shared_slice_known-1.given i).fits) c.args.from (x) (rest) c.args.used c.args.k c.popcount-ones.result k.result.word k.result.left c.popcount-ones.ensures c.if-k-ones.false k.ensures c.word_over-bits.result (At c.select_in_word_within-2.result) c.word_over-bits.ensures (in_used) (sym c.select_in_word_within-2.ensures)
+    find_word c.args.over_one c.args.words.now (λ i. (c.shared_slice_known-1.given i).fits) c.args.from (x) (rest) c.args.used c.args.k c.popcount-ones.result k.result.word k.result.left c.popcount-ones.ensures c.if-k-ones.false k.ensures c.word_over-bits.result (Some c.select_in_word_within-2.result) c.word_over-bits.ensures (in_used) (sym c.select_in_word_within-2.ensures)

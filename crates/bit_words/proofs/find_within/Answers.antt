@@ -1,11 +1,11 @@
 -- `bit_words::find_within` meets its contract.
 -- Assumes nothing.
+use Rattle.std.specs.Prelude.{Some}
 use mathlib.Core.Path.{◌≡◌, subst}
 use Prim.Native.Nat.{ℕ, ◌+◌, ◌*◌, ◌/◌, ◌≤◌, ◌<◌}
 use native.Mathlib.Omega.{arith}
 use Rattle.broadword.specs.Bits.{count}
 use Rattle.broadword.specs.Places.{select}
-use Rattle.broadword.specs.declared.Found.TheVariants.{At}
 use Rattle.bit_words.specs.Vector.{bit_over}
 use Rattle.bit_words.proofs.Search.{ahead_at, ahead_past}
 use Rattle.bit_words.proofs.find_within.Goals as goal
@@ -14,12 +14,12 @@ upto : (used from : ℕ) → from / 64 < used → from ≤ used * 64
 upto used from h = omega arith
 
 -- the place in the 64 bits
-here : (c : goal.After-select_in_word_within) → (c.args.from + c.select_in_word_within.result < c.args.used * 64) × (select (bit_over c.args.over_one c.args.words.now) (c.args.used * 64) (count (bit_over c.args.over_one c.args.words.now) c.args.from + c.args.k) ≡ At (c.args.from + c.select_in_word_within.result))
+here : (c : goal.After-select_in_word_within) → (c.args.from + c.select_in_word_within.result < c.args.used * 64) × (select (bit_over c.args.over_one c.args.words.now) (c.args.used * 64) (count (bit_over c.args.over_one c.args.words.now) c.args.from + c.args.k) ≡ Some (c.args.from + c.select_in_word_within.result))
 here c =
     ahead_at c.args.over_one c.args.words.now c.args.used c.args.from c.args.k c.window_over-bits.result c.window_over-bits.ensures c.requires.1 c.select_in_word_within.result (upto c.args.used c.args.from c.requires.0.start) c.select_in_word_within.ensures
 
 pub select_in_word_within-requires : goal.select_in_word_within-requires
-select_in_word_within-requires c = (c.requires.0.rule, subst (λ (n : ℕ). c.args.k < n) c.popcount.ensures c.if-k-popcount.true)
+select_in_word_within-requires c = (subst (λ (n : ℕ). c.args.k < n) c.popcount.ensures c.if-k-popcount.true)
 
 pub overflow_add-result : goal.overflow_add-result
 overflow_add-result c = let l = (here c).0 in let f = c.requires.0.few in omega arith

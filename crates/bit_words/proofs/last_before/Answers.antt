@@ -6,7 +6,7 @@ use Rattle.bit_words.proofs.Last as last_word
 use Rattle.bit_words.proofs.last_before.Goals as goal
 
 pub overflow_add-result : goal.overflow_add-result
-overflow_add-result c = let l = (last_word.near c.args.words.now c.args.end c.window.result c.in-At.bit c.if-end-lt-WORD_LEN.false c.requires.0 c.window.ensures (sym c.msb.ensures ∙ c.in-At.is)).0 in omega (arith, c.well_formed, c.requires.0, c.if-end-lt-WORD_LEN.false)
+overflow_add-result c = let l = (last_word.near c.args.words.now c.args.end c.window.result c.in-Some.bit c.if-end-lt-WORD_LEN.false c.requires.0 c.window.ensures (sym c.msb.ensures ∙ c.in-Some.is)).0 in omega (arith, c.well_formed, c.requires.0, c.if-end-lt-WORD_LEN.false)
 
-pub returns-in-At : goal.returns-in-At
-returns-in-At c = (last_word.near c.args.words.now c.args.end c.window.result c.in-At.bit c.if-end-lt-WORD_LEN.false c.requires.0 c.window.ensures (sym c.msb.ensures ∙ c.in-At.is)).1
+pub returns-in-Some : goal.returns-in-Some
+returns-in-Some c = (last_word.near c.args.words.now c.args.end c.window.result c.in-Some.bit c.if-end-lt-WORD_LEN.false c.requires.0 c.window.ensures (sym c.msb.ensures ∙ c.in-Some.is)).1

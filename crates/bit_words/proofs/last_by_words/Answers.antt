@@ -15,8 +15,8 @@ overflow_sub-end c = last_word.some_place (bit_at c.args.words.now) c.args.end c
 pub last_upto-requires : goal.last_upto-requires
 last_upto-requires c = let e = last_word.some_place (bit_at c.args.words.now) c.args.end c.requires.1 in omega (arith, c.requires.0)
 
-pub returns-in-At : goal.returns-in-At
-returns-in-At c = let e = last_word.some_place (bit_at c.args.words.now) c.args.end c.requires.1 in let d : c.args.end - 1 + 1 ≡ c.args.end = omega arith in ap (last (bit_at c.args.words.now)) (sym d) ∙ sym c.last_upto.ensures ∙ c.in-At.is
+pub returns-in-Some : goal.returns-in-Some
+returns-in-Some c = let e = last_word.some_place (bit_at c.args.words.now) c.args.end c.requires.1 in let d : c.args.end - 1 + 1 ≡ c.args.end = omega arith in ap (last (bit_at c.args.words.now)) (sym d) ∙ sym c.last_upto.ensures ∙ c.in-Some.is
 
-pub returns-in-Nothing : goal.returns-in-Nothing
-returns-in-Nothing c = let e = last_word.some_place (bit_at c.args.words.now) c.args.end c.requires.1 in let d : c.args.end - 1 + 1 ≡ c.args.end = omega arith in absurd (last_word.some_last (bit_at c.args.words.now) (bit_at_le c.args.words.now) c.args.end c.requires.1 (ap (last (bit_at c.args.words.now)) (sym d) ∙ sym c.last_upto.ensures ∙ c.in-Nothing.is))
+pub returns-in-None : goal.returns-in-None
+returns-in-None c = let e = last_word.some_place (bit_at c.args.words.now) c.args.end c.requires.1 in let d : c.args.end - 1 + 1 ≡ c.args.end = omega arith in absurd (last_word.some_last (bit_at c.args.words.now) (bit_at_le c.args.words.now) c.args.end c.requires.1 (ap (last (bit_at c.args.words.now)) (sym d) ∙ sym c.last_upto.ensures ∙ c.in-None.is))

@@ -6,7 +6,7 @@ use Rattle.bit_words.specs.Inner.{place_in}
 use Rattle.bit_words.proofs.place_in.Goals as goal
 
 pub overflow_add-result : goal.overflow_add-result
-overflow_add-result c = let l = c.requires.1 c.in-At.bit c.in-At.is in omega arith
+overflow_add-result c = let l = c.requires.1 c.in-Some.bit c.in-Some.is in omega arith
 
-pub returns-in-At : goal.returns-in-At
-returns-in-At c = sym (ap (place_in c.args.i) c.in-At.is)
+pub returns-in-Some : goal.returns-in-Some
+returns-in-Some c = sym (ap (place_in c.args.i) c.in-Some.is)

@@ -1,5 +1,6 @@
 -- `broadword::msb` meets its contract: the leading zeros, the highest one and the bits below it make 64.
 -- Assumes nothing.
+use Rattle.std.specs.Prelude.{Some}
 use mathlib.Core.Path.{◌≡◌, sym, ap, ◌∙◌, subst}
 use Prim.Native.Nat.{ℕ, suc, ◌+◌, ◌/◌, ◌^◌, ◌≤◌, ◌<◌}
 use native.Mathlib.Nat.{pos_of_ne-zero, pow-suc, div-eq_of_lt-le, lt_of_lt_of_le}
@@ -8,7 +9,6 @@ use lib.Count.{count_leading_zeros, leading_top}
 use lib.Pow.{pow_pos, pow_mono}
 use Rattle.broadword.specs.Bits.{bit}
 use Rattle.broadword.specs.Places.{last}
-use Rattle.broadword.specs.declared.Found.TheVariants.{At}
 use Rattle.broadword.proofs.Count.{bit-above}
 use Rattle.broadword.proofs.Find.{last_at, last_none}
 use Rattle.broadword.proofs.msb.Goals as goal
@@ -17,7 +17,7 @@ pub returns-then-x-eq0 : goal.returns-then-x-eq0
 returns-then-x-eq0 c = sym (ap (λ (x : ℕ). last (bit x) 64) c.if-x-eq0.true ∙ last_none (bit 0) 64 (λ i _. bit-above 0 i (pow_pos i)))
 
 -- the place that the leading zeros leave is that of the last one
-below-zeros : (x place : ℕ) → 0 < x → x < 2 ^ 64 → count_leading_zeros 64 x + suc place ≡ 64 → last (bit x) 64 ≡ At place
+below-zeros : (x place : ℕ) → 0 < x → x < 2 ^ 64 → count_leading_zeros 64 x + suc place ≡ 64 → last (bit x) 64 ≡ Some place
 unfolding bit
 below-zeros x place z h e =
     let t = leading_top 64 x z h in

@@ -1,6 +1,7 @@
 -- `broadword::select_in_word_within` meets its contract.
 -- Assumes nothing.
 mod Law
+use Rattle.std.specs.Prelude.{Some}
 use mathlib.Core.Path.{◌≡◌, sym, ap, ◌∙◌, subst⁻¹}
 use Prim.Native.Nat.{ℕ, suc, ◌+◌, ◌-◌, ◌*◌, ◌/◌, ◌%◌, ◌^◌, ◌<◌}
 use native.Mathlib.Nat.{le_trans, le_of_eq}
@@ -9,7 +10,6 @@ use lib.Bits.{bit_and, mask_lt}
 use Rattle.broadword.specs.Bits.{bit, count, ones}
 use Rattle.broadword.specs.Fields.{digit, word}
 use Rattle.broadword.specs.Places.{select}
-use Rattle.broadword.specs.declared.Found.TheVariants.{At}
 use Rattle.broadword.proofs.Fields.{byte_at}
 use Rattle.broadword.proofs.select_in_word_within.Answers.Law.{sums_are, k_lt, j, j_lt, no_borrow, place_is, rank_is, rank_le, byte_rank_8, found}
 use Rattle.broadword.proofs.select_in_word_within.Goals as goal
@@ -23,7 +23,7 @@ module _ (c : goal.After-wrapping_mul-byte_sums) where
   k = c.args.k
 
   abbrev h : k < ones x 64
-  h = c.requires.1
+  h = c.requires
 
   abbrev s : ℕ
   s = c.wrapping_mul-byte_sums.result
@@ -60,12 +60,11 @@ overflow_shr-x c = place_lt c
 
 pub select_in_byte-requires : goal.select_in_byte-requires
 select_in_byte-requires c = (
-  c.requires.0,
   mask_lt (x c.before / 2 ^ place c) 8,
   subst⁻¹ (λ (n : ℕ). k c.before - n < 8) (ranked c) (byte_rank_8 (x c.before) (k c.before) (h c.before)),
 )
 
-at_last : (c : goal.After-select_in_byte) → (c.select_in_byte.result < 8) × (select (bit (x c.before.before)) 64 (k c.before.before) ≡ At (j (x c.before.before) (k c.before.before) (h c.before.before) * 8 + c.select_in_byte.result))
+at_last : (c : goal.After-select_in_byte) → (c.select_in_byte.result < 8) × (select (bit (x c.before.before)) 64 (k c.before.before) ≡ Some (j (x c.before.before) (k c.before.before) (h c.before.before) * 8 + c.select_in_byte.result))
 at_last c =
     let m = c.before.before in
     found (x m) (k m) (h m) (bit_and (x m / 2 ^ place c.before) 0xff) (k m - bit_and ((s m * 2 ^ 8) % 2 ^ 64 / 2 ^ place c.before) 0xff) c.select_in_byte.result
@@ -75,4 +74,4 @@ pub overflow_add-result : goal.overflow_add-result
 overflow_add-result c = let l = place_lt c.before in omega (arith, (at_last c).0)
 
 pub returns : goal.returns
-returns c = (at_last c).1 ∙ sym (ap (λ (n : ℕ). At (n + c.select_in_byte.result)) (placed c.before))
+returns c = (at_last c).1 ∙ sym (ap (λ (n : ℕ). Some (n + c.select_in_byte.result)) (placed c.before))

@@ -3,8 +3,8 @@
 use Rattle.ffi.proofs.Telling as telling
 use Rattle.ffi.proofs.ef_open.Goals as goal
 
-pub returns-in-Image : goal.returns-in-Image
-returns-in-Image c = telling.image-told _ _ c.«open».ensures _ c.in-Image.is
+pub returns-in-Ok : goal.returns-in-Ok
+returns-in-Ok c = telling.image-told _ _ c.«open».ensures _ c.in-Ok.is
 
-pub returns-in-Refused : goal.returns-in-Refused
-returns-in-Refused c = telling.refusal_told _ _ c.«open».ensures _ _ c.in-Refused.is c.number.ensures
+pub returns-in-Err : goal.returns-in-Err
+returns-in-Err c = telling.refusal_told _ _ c.«open».ensures _ _ c.in-Err.is c.number.ensures

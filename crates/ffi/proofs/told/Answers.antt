@@ -3,8 +3,8 @@
 use Rattle.ffi.proofs.Telling as telling
 use Rattle.ffi.proofs.told.Goals as goal
 
-pub returns-in-Accepted : goal.returns-in-Accepted
-returns-in-Accepted c = λ w. telling.accepted-told _ _ _ _ w c.in-Accepted.is c.outer.ensures
+pub returns-in-Ok : goal.returns-in-Ok
+returns-in-Ok c = λ w. telling.accepted-told _ _ _ _ w c.in-Ok.is c.outer.ensures
 
-pub returns-in-Refused : goal.returns-in-Refused
-returns-in-Refused c = λ w. telling.refused_told _ _ _ _ w c.in-Refused.is c.number.ensures
+pub returns-in-Err : goal.returns-in-Err
+returns-in-Err c = λ w. telling.refused_told _ _ _ _ w c.in-Err.is c.number.ensures

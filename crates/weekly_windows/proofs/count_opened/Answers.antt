@@ -15,11 +15,11 @@ returns-then-e-s c = counting.answer_is _ _ _ _ (sym c.are_windows.ensures ∙ n
 pub count_within-requires : goal.count_within-requires
 count_within-requires c =
     let o = c.requires in
-    (record { ok = o.opened.ok; parts = o.opened.parts; rule = o.rule }, c.begin_from-from.ensures.0, sym c.are_windows.ensures ∙ not-false _ c.if-not-are_windows.false-raw)
+    (o, c.begin_from-from.ensures.0, sym c.are_windows.ensures ∙ not-false _ c.if-not-are_windows.false-raw)
 
 pub returns : goal.returns
 returns c =
     let w = c.args.windows.now in
     let T = times c.args.image.now in
     counting.answer_is T w c.args.s c.args.e (sym c.are_windows.ensures ∙ not-false _ c.if-not-are_windows.false-raw) _
-    (c.count_within.ensures ∙ sym (counting.count_span w _ c.args.s c.args.e _ T (images.is_fit _ c.requires.opened.ok).rises c.begin_from-from.ensures.1))
+    (c.count_within.ensures ∙ sym (counting.count_span w _ c.args.s c.args.e _ T (images.is_fit _ c.requires.ok).rises c.begin_from-from.ensures.1))

@@ -1,14 +1,19 @@
 -- `winters::compare` meets its contract. Assumes nothing.
+use mathlib.Core.Path.{ap, ◌∙◌}
+use Rattle.std.specs.Prelude.{ℕ, Result}
+use Rattle.errors.specs.Answer.{leaves, of_result}
+use Rattle.errors.specs.declared.Refusal.{Refusal}
+use Rattle.errors.proofs.Passing as passing
 use Rattle.elias_fano.proofs.Answers as answers
 use Rattle.winters.proofs.Writing as writing
 use Rattle.winters.proofs.compare.Goals as goal
 
 pub compare_accepted-requires : goal.compare_accepted-requires
-compare_accepted-requires c = answers.is_open _ _ _ c.«open».ensures c.in-Image.is
+compare_accepted-requires c = answers.opened _ _ c.in_ok-p.ensures
 
-pub returns-in-Image : goal.returns-in-Image
-returns-in-Image c =
-    writing.compare_opened c.args.image.now c.args.seconds.now c.args.out.now (answers.is_open _ _ _ c.«open».ensures c.in-Image.is).0 _ c.compare_accepted.ensures
+pub returns : goal.returns
+returns c =
+    writing.compare_opened c.args.image.now c.args.seconds.now c.args.out.now (answers.opened _ _ c.in_ok-p.ensures).ok _ c.compare_accepted.ensures
 
-pub returns-in-Refused : goal.returns-in-Refused
-returns-in-Refused c = writing.compare_refused c.args.image.now c.args.seconds.now c.args.out.now _ _ c.«open».ensures c.in-Refused.is
+pub returns-in_err-p : goal.returns-in_err-p
+returns-in_err-p c = ap (λ (r : Result ℕ Refusal). leaves (of_result r) c.args.out.now) (passing.refused_so _ _ c.from_residual.ensures.1) ∙ writing.compare_refused c.args.image.now c.args.seconds.now c.args.out.now _ c.in_err-p.ensures

@@ -9,9 +9,9 @@ use Rattle.winters.proofs.summarize.Goals as goal
 pub summarize_on-requires : goal.summarize_on-requires
 summarize_on-requires c =
     let o = c.requires in
-    (record { ok = o.opened.ok; parts = o.opened.parts; rule = o.rule }, c.begin_from-from.ensures.0)
+    (o, c.begin_from-from.ensures.0)
 
 pub returns : goal.returns
 returns c =
     c.summarize_on.ensures
-    ∙ sym (ap summary_of (spans.span_begins _ c.args.s c.args.e _ (times c.args.image.now) (images.is_fit _ c.requires.opened.ok).rises c.begin_from-from.ensures.1))
+    ∙ sym (ap summary_of (spans.span_begins _ c.args.s c.args.e _ (times c.args.image.now) (images.is_fit _ c.requires.ok).rises c.begin_from-from.ensures.1))

@@ -3,7 +3,7 @@ use Rattle.elias_fano.proofs.Answers as answers
 use Rattle.bench_exports.proofs.record.bench_record_walk.Goals as goal
 
 pub begin-requires : goal.begin-requires
-begin-requires c = let h = answers.is_open _ _ _ c.«open».ensures c.in-Image.is in record { ok = h.0; parts = h.1; rule = c.select_in_byte_table-table.ensures }
+begin-requires c = let h = answers.is_open _ _ _ c.«open».ensures c.in-Image.is in record { ok = h.0; parts = h.1; }
 
 pub walk_on-requires : goal.walk_on-requires
-walk_on-requires c = let h = answers.is_open _ _ _ c.«open».ensures c.in-Image.is in (record { ok = h.0; parts = h.1; rule = c.debruijn64_table-places.ensures }, c.begin.ensures.0)
+walk_on-requires c = let h = answers.is_open _ _ _ c.«open».ensures c.in-Image.is in (record { ok = h.0; parts = h.1; }, c.begin.ensures.0)

@@ -5,4 +5,4 @@ use Rattle.bench_exports.proofs.windows.bench_count_in_windows.Goals as goal
 pub count_all-requires : goal.count_all-requires
 count_all-requires c =
     let h = answers.is_open _ _ _ c.«open».ensures c.in-Image.is in
-    record { opened = record { ok = h.0; parts = h.1; rule = c.select_in_byte_table-table.ensures }; rule = c.debruijn64_table-places.ensures }
+    record { opened = record { ok = h.0; parts = h.1; }; }

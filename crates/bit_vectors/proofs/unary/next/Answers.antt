@@ -26,7 +26,7 @@ walk_from-requires c =
 pub next_within-requires : goal.next_within-requires
 next_within-requires c =
     let ok = sym c.is_invalid.ensures ∙ c.if-is_invalid.false in
-    (subst⁻¹ (Walking c.args.words.now c.args.len) c.walk_from.ensures (steps.walking c.args.words.now c.args.len c.args.w.from ok (omega arith)), c.debruijn64_table-table.ensures)
+    subst⁻¹ (Walking c.args.words.now c.args.len) c.walk_from.ensures (steps.walking c.args.words.now c.args.len c.args.w.from ok (omega arith))
 
 pub returns : goal.returns
 returns c =

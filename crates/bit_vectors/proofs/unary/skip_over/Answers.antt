@@ -19,7 +19,7 @@ pub returns-then-len-from : goal.returns-then-len-from
 returns-then-len-from c = ap of_stepped c.ended.ensures ∙ steps.ended_is c.args.words.now c.args.len 0 (sym c.is_invalid.ensures ∙ c.if-is_invalid.false) ∙ sym (steps.end_is c.args.words.now c.args.len c.args.w c.args.over_one 0 c.args.k c.args.w.from (sym c.is_invalid.ensures ∙ c.if-is_invalid.false) c.if-len-from.true (omega arith))
 
 pub find_from-requires : goal.find_from-requires
-find_from-requires c = let v = valid c.args.words.now c.args.len (sym c.is_invalid.ensures ∙ c.if-is_invalid.false) in let r = v.room in let e = c.words_for-used.ensures in record { start = omega arith; room = omega arith; few = omega arith; rule = c.select_in_byte_table-table.ensures }
+find_from-requires c = let v = valid c.args.words.now c.args.len (sym c.is_invalid.ensures ∙ c.if-is_invalid.false) in let r = v.room in let e = c.words_for-used.ensures in record { start = omega arith; room = omega arith; few = omega arith }
 
 pub returns-in_default : goal.returns-in_default
 returns-in_default c = let e = c.words_for-used.ensures in ap of_stepped c.ended-in_default.ensures ∙ steps.ended_is c.args.words.now c.args.len 0 (sym c.is_invalid.ensures ∙ c.if-is_invalid.false) ∙ sym (steps.end_is c.args.words.now c.args.len c.args.w c.args.over_one 0 c.args.k (c.words_for-used.result * 64) (sym c.is_invalid.ensures ∙ c.if-is_invalid.false) (omega arith) (select_few (bit_over c.args.over_one c.args.words.now) (bit_over_le c.args.over_one c.args.words.now) (c.words_for-used.result * 64) 0 (count (bit_over c.args.over_one c.args.words.now) c.args.w.from + c.args.k) (sym c.find_from.ensures ∙ c.in_default.is)))
@@ -28,4 +28,4 @@ pub stop-requires : goal.stop-requires
 stop-requires c = (sym c.is_invalid.ensures ∙ c.if-is_invalid.false)
 
 pub returns : goal.returns
-returns c = let r = selected (bit_over c.args.over_one c.args.words.now) (c.words_for-used.result * 64) (count (bit_over c.args.over_one c.args.words.now) c.args.w.from + c.args.k) c.in-At.place (sym c.find_from.ensures ∙ c.in-At.is) in c.stop.ensures ∙ sym (steps.stop_is c.args.words.now c.args.len c.args.w c.args.over_one c.args.k c.in-At.place (sym c.is_invalid.ensures ∙ c.if-is_invalid.false) r.one r.before)
+returns c = let r = selected (bit_over c.args.over_one c.args.words.now) (c.words_for-used.result * 64) (count (bit_over c.args.over_one c.args.words.now) c.args.w.from + c.args.k) c.in-Some.place (sym c.find_from.ensures ∙ c.in-Some.is) in c.stop.ensures ∙ sym (steps.stop_is c.args.words.now c.args.len c.args.w c.args.over_one c.args.k c.in-Some.place (sym c.is_invalid.ensures ∙ c.if-is_invalid.false) r.one r.before)

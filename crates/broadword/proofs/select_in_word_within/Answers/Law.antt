@@ -1,4 +1,5 @@
 -- What `select_in_word` computes, on plain numbers: which byte the one stands in, and its place in that byte. Assumes nothing.
+use Rattle.std.specs.Prelude.{Some, Option, unwrap_or}
 use mathlib.Core.Path.{◌≡◌, sym, ap, ap₂, ◌∙◌, subst⁻¹}
 use Prim.Native.Nat.{ℕ, suc, ◌+◌, ◌-◌, ◌*◌, ◌/◌, ◌%◌, ◌^◌, ◌≤◌, ◌<◌}
 use native.Mathlib.Nat.{le_trans, le_of_eq, lt_of_le_of_lt, lt_of_lt_of_le, mul_comm, mod-eq_of_lt, add-zero, not-le_of_lt, le_step, le_of_suc-le-suc, lt_trans, add-sub_of_le}
@@ -9,9 +10,7 @@ use lib.Pow.{shr-shr}
 use lib.Bits.{bit_and, bit_or, or_shifted_r, and_high}
 use Rattle.broadword.specs.Bits.{bit, count, ones}
 use Rattle.broadword.specs.Fields.{digit, word}
-use Rattle.broadword.specs.Places.{select, or_else}
-use Rattle.broadword.specs.declared.Found.{Found}
-use Rattle.broadword.specs.declared.Found.TheVariants.{At}
+use Rattle.broadword.specs.Places.{select}
 use Rattle.broadword.proofs.Bytes.{ks, msbs}
 use Rattle.broadword.proofs.Count.{bit_le, count_le, count_mono, count_same, count_add, count-fields, bit-digit}
 use Rattle.broadword.proofs.Fields.{digit-mod, digit-word, byte_at, masked, top_byte, word_or, word-sub, word_same, word_mono, word_shr_exact}
@@ -133,18 +132,18 @@ module _ (x k : ℕ) (h : k < ones x 64) where
   pub byte_rank_8 : k - count c j < 8
   byte_rank_8 = lt_of_lt_of_le byte_rank_lt (count_le (bit (digit 8 x j)) 8 (bit_le (digit 8 x j)))
 
-  pub found : (B r t : ℕ) → B ≡ digit 8 x j → r ≡ k - count c j → t ≡ or_else (select (bit B) 8 r) 8
-      → (t < 8) × (select (bit x) 64 k ≡ At (j * 8 + t))
+  pub found : (B r t : ℕ) → B ≡ digit 8 x j → r ≡ k - count c j → t ≡ unwrap_or (select (bit B) 8 r) 8
+      → (t < 8) × (select (bit x) 64 k ≡ Some (j * 8 + t))
   found B r t eB er et =
       let d : ℕ = digit 8 x j in
       let s = select_some (bit d) 8 (k - count c j) (bit_le d) byte_rank_lt in
       let u : ℕ = s.0 in
-      let is_at : select (bit d) 8 (k - count c j) ≡ At u = select_at (bit d) 8 (k - count c j) u s.1.within s.1.one s.1.before in
-      let e : t ≡ u = et ∙ ap₂ (λ (p q : ℕ). or_else (select (bit p) 8 q) 8) eB er ∙ ap (λ (f : Found). or_else f 8) is_at in
+      let is_at : select (bit d) 8 (k - count c j) ≡ Some u = select_at (bit d) 8 (k - count c j) u s.1.within s.1.one s.1.before in
+      let e : t ≡ u = et ∙ ap₂ (λ (p q : ℕ). unwrap_or (select (bit p) 8 q) 8) eB er ∙ ap (λ (f : Option ℕ). unwrap_or f 8) is_at in
       let l : u < 8 = s.1.within in
       let one : bit x (j * 8 + u) ≡ 1 = sym (bit-digit 8 x j u l) ∙ s.1.one in
       let before : count (bit x) (j * 8 + u) ≡ k =
       count_add (bit x) (j * 8) u
       ∙ ap₂ (λ (p q : ℕ). p + q) (count-fields 8 j x) (count_same (λ i. bit x (j * 8 + i)) (bit d) u (λ i m. sym (bit-digit 8 x j i (lt_trans m l))))
       ∙ ap (λ (y : ℕ). count c j + y) s.1.before ∙ add-sub_of_le rank_le in
-      (subst⁻¹ (λ (y : ℕ). y < 8) e l, select_at (bit x) 64 k (j * 8 + u) (omega (arith, j_lt)) one before ∙ ap (λ (y : ℕ). At (j * 8 + y)) (sym e))
+      (subst⁻¹ (λ (y : ℕ). y < 8) e l, select_at (bit x) 64 k (j * 8 + u) (omega (arith, j_lt)) one before ∙ ap (λ (y : ℕ). Some (j * 8 + y)) (sym e))

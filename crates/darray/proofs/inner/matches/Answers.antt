@@ -20,7 +20,7 @@ loop-j-init c =
 pub block_size-size-requires : goal.block_size-size-requires
 block_size-size-requires c =
     let a = c.args in
-    let p = c.requires.2 in
+    let p = c.requires in
     let l = c.loop-j in
     omega (arith, comparing.first_there a.over_one a.words.now a.len a.s a.index.now p l.a l.at l.over l.j l.invariant.1 c.loop-j-test.true)
 
@@ -28,13 +28,13 @@ pub load-next-requires : goal.load-next-requires
 load-next-requires c =
     let a = c.args in
     let l = c.loop-j in
-    comparing.load_ready a.over_one a.words.now a.len a.s a.index.now c.requires.2 l.a l.at l.over l.j l.invariant.1 c.loop-j-test.true a.table.now a.lowest.now c.requires.0 c.requires.1
+    comparing.load_ready a.over_one a.words.now a.len a.s a.index.now c.requires l.a l.at l.over l.j l.invariant.1 c.loop-j-test.true
 
 pub compare-requires : goal.compare-requires
 compare-requires c =
     let a = c.args in
     let l = c.loop-j in
-    comparing.comparing a.over_one a.words.now a.len a.s a.index.now c.requires.2 l.a l.at l.over l.j l.invariant.1 c.loop-j-test.true c.block_size-size.result c.block_size-size.ensures c.load-next.new.a c.load-next.result c.load-next.ensures
+    comparing.comparing a.over_one a.words.now a.len a.s a.index.now c.requires l.a l.at l.over l.j l.invariant.1 c.loop-j-test.true c.block_size-size.result c.block_size-size.ensures c.load-next.new.a c.load-next.result c.load-next.ensures
 
 pub returns-in_default : goal.returns-in_default
 returns-in_default c =
@@ -45,27 +45,27 @@ returns-in_default c =
     let r = c.compare in
     matching.it_is_not
     (λ e. subst (Compares d.new.a z.result a.s l.j l.over a.index.now) c.in_default.is r.ensures
-    (comparing.index_same a.over_one a.words.now a.len a.s a.index.now c.requires.2 l.a l.at l.over l.j l.invariant.1 c.loop-j-test.true z.result z.ensures d.new.a d.result d.ensures e))
+    (comparing.index_same a.over_one a.words.now a.len a.s a.index.now c.requires l.a l.at l.over l.j l.invariant.1 c.loop-j-test.true z.result z.ensures d.new.a d.result d.ensures e))
 
 -- one block more is compared
-next : (c : goal.In-Same)
+next : (c : goal.In-Some)
     → BlocksCompared c.args.over_one c.args.words.now
     c.args.len c.args.s
     c.args.index.now c.load-next.new.a c.load-next.result
-    (c.loop-j.over + c.in-Same.more) (c.loop-j.j + 1)
+    (c.loop-j.over + c.in-Some.more) (c.loop-j.j + 1)
 next c =
     let a = c.args in
     let l = c.loop-j in
     let z = c.block_size-size in
     let d = c.load-next in
-    let m = subst (Compares d.new.a z.result a.s l.j l.over a.index.now) c.in-Same.is c.compare.ensures in
-    comparing.compared_next a.over_one a.words.now a.len a.s a.index.now c.requires.2 l.a l.at l.over l.j l.invariant.1 c.loop-j-test.true z.result z.ensures d.new.a d.result d.ensures c.in-Same.more m.0 m.1
+    let m = subst (Compares d.new.a z.result a.s l.j l.over a.index.now) c.in-Some.is c.compare.ensures in
+    comparing.compared_next a.over_one a.words.now a.len a.s a.index.now c.requires l.a l.at l.over l.j l.invariant.1 c.loop-j-test.true z.result z.ensures d.new.a d.result d.ensures c.in-Some.more m.0 m.1
 
 pub overflow_add-over : goal.overflow_add-over
 overflow_add-over c =
     let a = c.args in
     let l = c.loop-j in
-    omega (arith, comparing.spilled_lt a.over_one a.words.now a.len a.s a.index.now c.requires.2 _ _ (l.over + c.in-Same.more) (l.j + 1) (next c))
+    omega (arith, comparing.spilled_lt a.over_one a.words.now a.len a.s a.index.now c.requires _ _ (l.over + c.in-Some.more) (l.j + 1) (next c))
 
 pub overflow_add-j : goal.overflow_add-j
 overflow_add-j c = omega (arith, c.loop-j-test.true)
@@ -82,6 +82,6 @@ returns c =
     let l = c.loop-j in
     let e : l.j ≡ a.s.entries = omega (arith, l.invariant.0, c.loop-j-test.false) in
     record {
-      yes = λ h. comparing.is_index a.over_one a.words.now a.len a.s a.index.now c.requires.2 l.a l.at l.over l.j l.invariant.1 e (eqb-true _ _ h);
-      no = λ h i. eqb-false _ _ h (comparing.index_all a.over_one a.words.now a.len a.s a.index.now c.requires.2 l.a l.at l.over l.j l.invariant.1 e i);
+      yes = λ h. comparing.is_index a.over_one a.words.now a.len a.s a.index.now c.requires l.a l.at l.over l.j l.invariant.1 e (eqb-true _ _ h);
+      no = λ h i. eqb-false _ _ h (comparing.index_all a.over_one a.words.now a.len a.s a.index.now c.requires l.a l.at l.over l.j l.invariant.1 e i);
     }

@@ -19,13 +19,13 @@ pub overflow_add-blocks : goal.overflow_add-blocks
 overflow_add-blocks c =
     let a = c.args in
     let p = c.requires in
-    omega (arith, p.3, scan.count_few a.over_one a.words.now a.len, p.2)
+    omega (arith, p.2, scan.count_few a.over_one a.words.now a.len, p.1)
 
 pub loop-j-init : goal.loop-j-init
 loop-j-init c =
     let a = c.args in
     let p = c.requires in
-    (omega (arith, p.4.there, p.4.counted, p.3, count_mono (bit_over a.over_one a.words.now) (a.len / 64 * 64) a.len (omega arith)), p.4.spilled, p.4.ahead)
+    (omega (arith, p.3.there, p.3.counted, p.2, count_mono (bit_over a.over_one a.words.now) (a.len / 64 * 64) a.len (omega arith)), p.3.spilled, p.3.ahead)
 
 pub ends-s-requires : goal.ends-s-requires
 ends-s-requires c =
@@ -33,7 +33,7 @@ ends-s-requires c =
     let a = c.args in
     let p = c.requires in
     let h = there in
-    (p.0, c.loop-j.invariant.2, block.inside a.over_one a.words.now a.len a.n p.3 _ _ (omega (arith, p.1)) p.2 (omega arith), h)
+    (c.loop-j.invariant.2, block.inside a.over_one a.words.now a.len a.n p.2 _ _ (omega (arith, p.0)) p.1 (omega arith), h)
 
 pub block_size-requires : goal.block_size-requires
 block_size-requires c =
@@ -43,7 +43,7 @@ block_size-requires c =
 pub spilled-overflow-requires : goal.spilled-overflow-requires
 spilled-overflow-requires c =
     let there : 1024 * c.loop-j.j < c.args.n = omega (arith, c.loop-j-test.true) in
-    block.span_rises c.args.over_one c.args.words.now c.args.len c.args.n c.requires.3 c.loop-j.j c.ends-s.result (there) c.ends-s.ensures
+    block.span_rises c.args.over_one c.args.words.now c.args.len c.args.n c.requires.2 c.loop-j.j c.ends-s.result (there) c.ends-s.ensures
 
 pub overflow_add-overflow : goal.overflow_add-overflow
 overflow_add-overflow c =
@@ -54,10 +54,10 @@ overflow_add-overflow c =
     let r = c.ends-s.result in
     let e : c.spilled-overflow.result ≡ spill P l.j =
     c.spilled-overflow.ensures ∙ ap (λ (z : ℕ). cond (leb 65536 (r.last - r.first)) z 0) c.block_size.ensures
-    ∙ block.spill_is a.over_one a.words.now a.len a.n c.requires.3 l.j r (there) c.ends-s.ensures in
+    ∙ block.spill_is a.over_one a.words.now a.len a.n c.requires.2 l.j r (there) c.ends-s.ensures in
     ap₂ (λ (x y : ℕ). x + y) l.invariant.1 e ∙ sym (ap (before P) (add-one l.j) ∙ index.before_next P l.j) in
     let a = c.args in
-    omega (arith, next_before, index.before_le (positions a.over_one a.words.now a.len) (c.loop-j.j + 1), block.length_is a.over_one a.words.now a.len a.n c.requires.3, c.ranges)
+    omega (arith, next_before, index.before_le (positions a.over_one a.words.now a.len) (c.loop-j.j + 1), block.length_is a.over_one a.words.now a.len a.n c.requires.2, c.ranges)
 
 pub overflow_add-j : goal.overflow_add-j
 overflow_add-j c = omega (arith, c.loop-j-test.true)
@@ -74,7 +74,7 @@ loop-j-preserved c =
     let r = c.ends-s.result in
     let e : c.spilled-overflow.result ≡ spill P l.j =
     c.spilled-overflow.ensures ∙ ap (λ (z : ℕ). cond (leb 65536 (r.last - r.first)) z 0) c.block_size.ensures
-    ∙ block.spill_is a.over_one a.words.now a.len a.n c.requires.3 l.j r (there) c.ends-s.ensures in
+    ∙ block.spill_is a.over_one a.words.now a.len a.n c.requires.2 l.j r (there) c.ends-s.ensures in
     ap₂ (λ (x y : ℕ). x + y) l.invariant.1 e ∙ sym (ap (before P) (add-one l.j) ∙ index.before_next P l.j) in (
       omega (arith, c.loop-j-test.true),
       next_before,

@@ -19,8 +19,6 @@ pub write_blocks_within-requires : goal.write_blocks_within-requires
 write_blocks_within-requires c =
     let a = c.args in
     let w = take (words_for a.len) (drop a.first a.buf.now) in (
-      c.select_in_byte_table-table.ensures,
-      c.debruijn64_table-lowest.ensures,
       c.requires.0,
       c.requires.1,
       subst⁻¹ (λ z. Writable (positions a.over_one w a.len) a.len (length w) z (length a.buf.now - a.at)) c.sizes_by.ensures c.requires.2,

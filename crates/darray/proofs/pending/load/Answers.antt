@@ -13,19 +13,17 @@ use Rattle.darray.proofs.pending.load.Goals as goal
 pub find_near-h-requires : goal.find_near-h-requires
 find_near-h-requires c =
     let p = c.requires in
-    (p.1, p.3, block.inside_le _ _ _ _ (omega arith) p.4)
+    (p.1, block.inside_le _ _ _ _ (omega arith) p.2)
 
 pub load_from-requires : goal.load_from-requires
 load_from-requires c =
     let p = c.requires in
     record {
       long = p.0;
-      some = omega (arith, c.block_size.ensures, p.5);
+      some = omega (arith, c.block_size.ensures, p.3);
       few = omega (arith, c.block_size.ensures);
-      rule = p.1;
-      mapping = p.2;
       hits = c.find_near-h.ensures;
-      inside = subst (λ (x : ℕ). Inside (bit_over c.args.over_one c.args.words.now) (length c.args.words.now) (1024 * c.args.block + (x - 1))) (sym c.block_size.ensures) p.4;
+      inside = subst (λ (x : ℕ). Inside (bit_over c.args.over_one c.args.words.now) (length c.args.words.now) (1024 * c.args.block + (x - 1))) (sym c.block_size.ensures) p.2;
     }
 
 pub returns : goal.returns

@@ -18,18 +18,18 @@ loop-i-init c =
     let a = c.args in
     let p = c.requires in
     let z : a.k ≡ a.k + 0 = omega arith in
-    (omega arith, p.0, sampling.due_0 false, subst (Ahead (bit_over a.over_one a.words.now) a.from) z p.4, omega (arith, p.4.to_come), λ m h. absurd (not-suc-le-zero h))
+    (omega arith, p.0, sampling.due_0 false, subst (Ahead (bit_over a.over_one a.words.now) a.from) z p.3, omega (arith, p.3.to_come), λ m h. absurd (not-suc-le-zero h))
 
 pub overflow_add-k : goal.overflow_add-k
 overflow_add-k c =
     let a = c.args in
-    let p = c.requires.5 in
+    let p = c.requires.4 in
     omega (arith, c.loop-i-test.true, p.there, p.few, counts.count_few a.over_one a.words.now p.bits)
 
 pub find_near-h-requires : goal.find_near-h-requires
 find_near-h-requires c =
     let p = c.requires in
-    (p.3, c.loop-i.invariant.3, blocks.inside_le _ _ _ _ (omega (arith, c.loop-i-test.true)) p.5)
+    (c.loop-i.invariant.3, blocks.inside_le _ _ _ _ (omega (arith, c.loop-i-test.true)) p.4)
 
 pub bounds-a-i : goal.bounds-a-i
 bounds-a-i c = omega (arith, c.loop-i-test.true, c.requires.2)
@@ -59,14 +59,14 @@ overflow_sub-last c = omega (arith, c.requires.1)
 pub overflow_add-k-2 : goal.overflow_add-k-2
 overflow_add-k-2 c =
     let a = c.args in
-    let p = c.requires.5 in
+    let p = c.requires.4 in
     omega (arith, p.there, p.few, counts.count_few a.over_one a.words.now p.bits)
 
 pub find_near-h-requires-2 : goal.find_near-h-requires-2
 find_near-h-requires-2 c =
     let p = c.requires in
     let l = c.loop-i.invariant in
-    (p.3, record { counted = l.3.counted; to_come = l.4 }, p.5)
+    (record { counted = l.3.counted; to_come = l.4 }, p.4)
 
 pub bounds-a-last : goal.bounds-a-last
 bounds-a-last c = omega (arith, c.requires.1, c.requires.2)

@@ -5,7 +5,7 @@ use Rattle.darray.proofs.Through as through
 use Rattle.darray.proofs.select.select.Goals as goal
 
 pub returns-then-positions-k : goal.returns-then-positions-k
-returns-then-positions-k c = through.too_few c.args.words.now c.args.len c.args.over_one c.args.index.now c.args.positions c.args.table.now c.requires c.args.k c.if-positions-k.true
+returns-then-positions-k c = through.too_few c.args.words.now c.args.len c.args.over_one c.args.index.now c.args.positions c.requires c.args.k c.if-positions-k.true
 
 pub returns : goal.returns
 returns c = sym c.select_within.ensures

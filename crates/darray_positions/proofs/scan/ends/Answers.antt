@@ -11,12 +11,12 @@ use Rattle.darray_positions.proofs.scan.ends.Goals as goal
 pub find-a-requires : goal.find-a-requires
 find-a-requires c =
     let p = c.requires in
-    (p.0, p.1, blocks.inside_le _ _ _ _ (omega arith) p.2)
+    (p.0, blocks.inside_le _ _ _ _ (omega arith) p.1)
 
 pub find-b-requires : goal.find-b-requires
 find-b-requires c =
     let e : last_in_block c.args.n c.args.block ≡ 1024 * c.args.block + (c.block_size.result - 1) = ap (λ (x : ℕ). 1024 * c.args.block + (x - 1)) (sym c.block_size.ensures) in
-    (c.requires.0, blocks.ahead_le _ _ _ _ (omega arith) c.find-a.ensures.ahead, blocks.inside_le _ _ _ _ (omega arith) c.requires.2)
+    (blocks.ahead_le _ _ _ _ (omega arith) c.find-a.ensures.ahead, blocks.inside_le _ _ _ _ (omega arith) c.requires.1)
 
 pub returns : goal.returns
 returns c =

@@ -22,20 +22,20 @@ pub overflow_mul-k : goal.overflow_mul-k
 overflow_mul-k c =
     let few : 1024 * c.loop-first.j ≤ c.args.len = let a = c.args in
     omega (arith, c.loop-first.invariant.3, scan.count_few a.over_one a.words.now (a.len / 64 * 64)) in
-    omega (arith, few, c.requires.2)
+    omega (arith, few, c.requires.1)
 
 pub seek-first-requires : goal.seek-first-requires
-seek-first-requires c = (c.loop-first.invariant.1, record { upto = c.loop-first.invariant.2; room = omega (arith, c.requires.1) })
+seek-first-requires c = (c.loop-first.invariant.1, record { upto = c.loop-first.invariant.2; room = omega (arith, c.requires.0) })
 
 pub overflow_add-k : goal.overflow_add-k
 overflow_add-k c =
     let few : 1024 * c.loop-first.j ≤ c.args.len = let a = c.args in
     omega (arith, c.loop-first.invariant.3, scan.count_few a.over_one a.words.now (a.len / 64 * 64)) in
-    omega (arith, few, c.requires.2)
+    omega (arith, few, c.requires.1)
 
 pub seek-last-requires : goal.seek-last-requires
 seek-last-requires c =
-    (block.ahead_le _ _ _ _ (omega arith) c.seek-first.ensures.ahead, record { upto = c.seek-first.ensures.upto; room = omega (arith, c.requires.1) })
+    (block.ahead_le _ _ _ _ (omega arith) c.seek-first.ensures.ahead, record { upto = c.seek-first.ensures.upto; room = omega (arith, c.requires.0) })
 
 pub returns-then-last-end : goal.returns-then-last-end
 returns-then-last-end c =
@@ -49,19 +49,19 @@ place_at-requires c =
     let ends : c.seek-last.result.word < c.args.len / 64 = omega (arith, c.if-last-end.false, c.seek-last.ensures.upto) in
     let g = c.seek-first.ensures in
     let h : c.seek-first.result.word < c.args.len / 64 = omega (arith, ends, c.seek-last.ensures.on) in
-    (c.requires.0, g.ahead, omega (arith, c.requires.1), omega (arith, c.requires.2), g.here h)
+    (g.ahead, omega (arith, c.requires.0), omega (arith, c.requires.1), g.here h)
 
 pub overflow_add-k-in-loop-first : goal.overflow_add-k-in-loop-first
 overflow_add-k-in-loop-first c =
     let few : 1024 * c.loop-first.j ≤ c.args.len = let a = c.args in
     omega (arith, c.loop-first.invariant.3, scan.count_few a.over_one a.words.now (a.len / 64 * 64)) in
-    omega (arith, few, c.requires.2)
+    omega (arith, few, c.requires.1)
 
 pub place_at-requires-in-loop-first : goal.place_at-requires-in-loop-first
 place_at-requires-in-loop-first c =
     let ends : c.seek-last.result.word < c.args.len / 64 = omega (arith, c.if-last-end.false, c.seek-last.ensures.upto) in
     let g = c.seek-last.ensures in
-    (c.requires.0, g.ahead, omega (arith, ends, c.requires.1), omega (arith, ends, c.requires.2), g.here (ends))
+    (g.ahead, omega (arith, ends, c.requires.0), omega (arith, ends, c.requires.1), g.here (ends))
 
 pub spilled-overflow-requires : goal.spilled-overflow-requires
 spilled-overflow-requires c = block.position_le _ _ _ _ _ c.place_at.ensures c.place_at-in-loop-first.ensures (omega arith)
@@ -79,7 +79,7 @@ overflow_add-overflow c =
     c.seek-last.result c.seek-last.ensures.ahead
     l.overflow c.spilled-overflow.result l.invariant.0 c.spilled-overflow.ensures in
     let P = positions c.args.over_one c.args.words.now c.args.len in
-    omega (arith, next, index.before_le P (c.loop-first.j + 1), block.length_is c.args.over_one c.args.words.now c.args.len _ refl, scan.count_few c.args.over_one c.args.words.now c.args.len, c.requires.2)
+    omega (arith, next, index.before_le P (c.loop-first.j + 1), block.length_is c.args.over_one c.args.words.now c.args.len _ refl, scan.count_few c.args.over_one c.args.words.now c.args.len, c.requires.1)
 
 pub overflow_add-j : goal.overflow_add-j
 overflow_add-j c =

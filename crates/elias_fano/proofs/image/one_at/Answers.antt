@@ -28,7 +28,7 @@ pub slice_bounds-select_within-end-2 : goal.slice_bounds-select_within-end-2
 slice_bounds-select_within-end-2 c = standing.zeros_end c.args.image.now c.args.p c.requires.0.parts (found c.args.image.now c.requires.0.ok).head
 
 pub select_within-requires : goal.select_within-requires
-select_within-requires c = (selecting.indexed c.args.image.now c.requires.0.ok c.args.p c.requires.0.parts _ c.requires.0.rule, c.requires.1)
+select_within-requires c = (selecting.indexed c.args.image.now c.requires.0.ok c.args.p c.requires.0.parts, c.requires.1)
 
 pub returns : goal.returns
 returns c =

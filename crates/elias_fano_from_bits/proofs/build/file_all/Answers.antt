@@ -26,7 +26,7 @@ loop-i-init c =
     let ws = c.args.words.now in (
       omega arith,
       refl,
-      c.requires.2 ∙ listing.begins c.args.len (length (ones_of ws c.args.len)) (ones_of ws c.args.len) (ones.fits ws c.args.len c.requires.0.sizable.countable) refl c.args.buffer.now (λ k. (c.slice_known-1.given k).fits) c.requires.0.room,
+      c.requires.1 ∙ listing.begins c.args.len (length (ones_of ws c.args.len)) (ones_of ws c.args.len) (ones.fits ws c.args.len c.requires.0.sizable.countable) refl c.args.buffer.now (λ k. (c.slice_known-1.given k).fits) c.requires.0.room,
       taking.begun ws c.args.len c.requires.0.sizable.countable _ c.walk_from-w.ensures,
       refl,
     )
@@ -34,7 +34,7 @@ loop-i-init c =
 pub take_one-one-requires : goal.take_one-one-requires
 take_one-one-requires c =
     let l = c.loop-i in
-    (l.invariant.3, omega (arith, c.loop-i-test.true, c.requires.0.sizable.number), c.requires.1)
+    (l.invariant.3, omega (arith, c.loop-i-test.true, c.requires.0.sizable.number))
 
 pub file-requires : goal.file-requires
 file-requires c =

@@ -41,7 +41,7 @@ pub file_all-requires : goal.file_all-requires
 file_all-requires c =
     let fw : Fit c.args.buffer.now = λ k. (c.slice_known-1.given k).fits in
     let e = c.fill.ensures in
-    (writing c.args.words.now c.args.len c.args.n c.args.s c.args.buffer.now c.requires fw _ e, c.debruijn64_table-places.ensures, zeroed c.args.words.now c.args.len c.args.n c.args.s c.args.buffer.now c.requires fw _ e)
+    (writing c.args.words.now c.args.len c.args.n c.args.s c.args.buffer.now c.requires fw _ e, zeroed c.args.words.now c.args.len c.args.n c.args.s c.args.buffer.now c.requires fw _ e)
 
 pub returns : goal.returns
 returns c =

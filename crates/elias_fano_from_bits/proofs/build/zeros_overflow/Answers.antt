@@ -5,13 +5,13 @@ use Rattle.elias_fano_from_bits.proofs.Filing as filing
 use Rattle.elias_fano_from_bits.proofs.build.zeros_overflow.Goals as goal
 
 pub overflow_sub-s : goal.overflow_sub-s
-overflow_sub-s c = let a = c.args in filing.high_enough a.words.now a.len a.n a.s c.requires.0
+overflow_sub-s c = let a = c.args in filing.high_enough a.words.now a.len a.n a.s c.requires
 
 pub overflow_of-requires : goal.overflow_of-requires
 overflow_of-requires c =
     let a = c.args in
-    let q = c.requires.0 in
-    (q.countable, filing.low_is a.words.now a.len a.n a.s q, filing.zeros_are a.words.now a.len a.n a.s q, c.requires.1)
+    let q = c.requires in
+    (q.countable, filing.low_is a.words.now a.len a.n a.s q, filing.zeros_are a.words.now a.len a.n a.s q)
 
 pub returns-then-rank : goal.returns-then-rank
 returns-then-rank c = measuring.chosen c.args.rank _ _ c.if-rank.true c.overflow_of.ensures

@@ -44,7 +44,7 @@ high_place-first-requires c =
     let there : 1024 * c.loop-j.j < c.args.n = omega (arith, c.loop-j-test.true) in
     let l = c.loop-j in
     let h = there in
-    (record { countable = c.requires.0; low = c.requires.1; there = omega (arith, c.requires.2); marked = l.invariant.2; upto = l.invariant.3 }, c.requires.3)
+    record { countable = c.requires.0; low = c.requires.1; there = omega (arith, c.requires.2); marked = l.invariant.2; upto = l.invariant.3 }
 
 pub overflow_sub-size : goal.overflow_sub-size
 overflow_sub-size c =
@@ -66,16 +66,14 @@ high_place-last-requires c =
     let l = c.loop-j in
     let h = there in
     let e = c.block_size-size.ensures in
-    let q = c.high_place-first.ensures in (
+    let q = c.high_place-first.ensures in
       record {
         countable = c.requires.0;
         low = c.requires.1;
         there = omega (arith, c.requires.2);
         marked = q.marked;
         upto = marks.upto_more c.args.over_one c.args.l c.high_place-first.result.mark (1024 * l.j) (1024 * l.j + (c.block_size-size.result - 1)) (omega arith) q.upto;
-      },
-      c.requires.3,
-    )
+      }
 
 pub spilled-overflow-requires : goal.spilled-overflow-requires
 spilled-overflow-requires c =

@@ -1,11 +1,14 @@
 -- `elias_fano_queries::header::is_empty` meets its contract.
 -- Assumes nothing.
+use Rattle.errors.specs.Answer.{of_truth}
+use mathlib.Core.Path.{ap, ◌∙◌}
+use Rattle.errors.proofs.Passing as passing
 use Rattle.elias_fano.proofs.Answers as answers
 use Rattle.elias_fano_queries.proofs.Answering as answering
 use Rattle.elias_fano_queries.proofs.header.is_empty.Goals as goal
 
-pub returns-in-Image : goal.returns-in-Image
-returns-in-Image c = let h = answers.is_open _ _ _ c.«open».ensures c.in-Image.is in answers.query_opened _ _ _ h.0 (answering.empty_is c.args.image.now h.0 _ h.1)
+pub returns : goal.returns
+returns c = let h = answers.opened _ _ c.in_ok-p.ensures in answers.query_opened _ _ _ h.ok (answering.empty_is c.args.image.now h.ok _ h.parts)
 
-pub returns-in-Refused : goal.returns-in-Refused
-returns-in-Refused c = answers.query_refused _ _ _ _ c.«open».ensures c.in-Refused.is
+pub returns-in_err-p : goal.returns-in_err-p
+returns-in_err-p c = ap of_truth (passing.refused_so _ _ c.from_residual.ensures.1) ∙ answers.query_refused _ _ _ c.in_err-p.ensures

@@ -18,7 +18,7 @@ pub overflow_sub-start : goal.overflow_sub-start
 overflow_sub-start c = standing.six_low c.args.image.now c.args.p c.requires.0.opened.parts (found c.args.image.now c.requires.0.opened.ok).head
 
 pub first_from-requires : goal.first_from-requires
-first_from-requires c = (neighbouring.findable c.args.image.now c.args.p c.args.k c.args.place c.requires.0 c.requires.1 _ c.requires.2, c.requires.3, neighbouring.enough c.args.image.now c.args.p c.args.k c.args.place c.requires.0 c.requires.1)
+first_from-requires c = (neighbouring.findable c.args.image.now c.args.p c.args.k c.args.place c.requires.0 c.requires.1, neighbouring.enough c.args.image.now c.args.p c.args.k c.args.place c.requires.0 c.requires.1)
 
 pub returns : goal.returns
 returns c = neighbouring.from_is c.args.image.now c.args.p c.args.k c.args.place c.requires.0 c.requires.1 _ c.first_from.ensures

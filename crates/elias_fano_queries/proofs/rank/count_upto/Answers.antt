@@ -29,7 +29,7 @@ pub slice_bounds-select_within-start-2 : goal.slice_bounds-select_within-start-2
 slice_bounds-select_within-start-2 c = standing.zeros_end c.args.image.now c.args.p c.requires.0.opened.parts (found c.args.image.now c.requires.0.opened.ok).head
 
 pub select_within-place-requires : goal.select_within-place-requires
-select_within-place-requires c = (opened.indexed_zeros c.args.image.now c.requires.0.opened.ok c.args.p c.requires.0.opened.parts c.requires.0.ranked _ c.requires.0.opened.rule, opened.zero_in c.args.image.now c.requires.0.opened.ok c.args.p c.requires.0.opened.parts c.args.h c.requires.1)
+select_within-place-requires c = (opened.indexed_zeros c.args.image.now c.requires.0.opened.ok c.args.p c.requires.0.opened.parts c.requires.0.ranked, opened.zero_in c.args.image.now c.requires.0.opened.ok c.args.p c.requires.0.opened.parts c.args.h c.requires.1)
 
 pub overflow_sub-result : goal.overflow_sub-result
 overflow_sub-result c = opened.after-zeros c.args.image.now c.requires.0.opened.ok c.args.p c.requires.0.opened.parts c.args.h _ c.select_within-place.ensures

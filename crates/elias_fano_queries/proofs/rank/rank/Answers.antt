@@ -1,13 +1,16 @@
 -- `elias_fano_queries::rank::rank` meets its contract.
 -- Assumes nothing.
+use Rattle.errors.specs.Answer.{of_optional}
+use mathlib.Core.Path.{ap, ◌∙◌}
+use Rattle.errors.proofs.Passing as passing
 use Rattle.elias_fano.proofs.Answers as answers
 use Rattle.elias_fano_queries.proofs.rank.rank.Goals as goal
 
 pub rank_opened-requires : goal.rank_opened-requires
-rank_opened-requires c = let h = answers.is_open _ _ _ c.«open».ensures c.in-Image.is in record { ok = h.0; parts = h.1; rule = c.select_in_byte_table-table.ensures }
+rank_opened-requires c = answers.opened _ _ c.in_ok-p.ensures
 
-pub returns-in-Image : goal.returns-in-Image
-returns-in-Image c = answers.query_opened _ _ _ (answers.is_open _ _ _ c.«open».ensures c.in-Image.is).0 c.rank_opened.ensures
+pub returns : goal.returns
+returns c = answers.query_opened _ _ _ (answers.opened _ _ c.in_ok-p.ensures).ok c.rank_opened.ensures
 
-pub returns-in-Refused : goal.returns-in-Refused
-returns-in-Refused c = answers.query_refused _ _ _ _ c.«open».ensures c.in-Refused.is
+pub returns-in_err-p : goal.returns-in_err-p
+returns-in_err-p c = ap of_optional (passing.refused_so _ _ c.from_residual.ensures.1) ∙ answers.query_refused _ _ _ c.in_err-p.ensures

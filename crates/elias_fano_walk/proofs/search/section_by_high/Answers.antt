@@ -37,11 +37,11 @@ overflow_shr-wanted c = selecting.low_small c.args.image.now c.requires.0.ok c.a
 
 pub halve_high-from-requires : goal.halve_high-from-requires
 halve_high-from-requires c =
-    (selecting.indexed c.args.image.now c.requires.0.ok c.args.p c.requires.0.parts _ c.requires.0.rule, c.requires.1.some, c.requires.1.upto, halved.few c.args.image.now c.requires.0.ok c.args.p c.requires.0.parts c.args.val c.args.a c.args.b c.requires.1)
+    (selecting.indexed c.args.image.now c.requires.0.ok c.args.p c.requires.0.parts, c.requires.1.some, c.requires.1.upto, halved.few c.args.image.now c.requires.0.ok c.args.p c.requires.0.parts c.args.val c.args.a c.args.b c.requires.1)
 
 pub high_section-requires : goal.high_section-requires
 high_section-requires c =
-    (selecting.indexed c.args.image.now c.requires.0.ok c.args.p c.requires.0.parts _ c.requires.0.rule, c.halve_high-from.ensures.upto, c.requires.1.upto, halved.few c.args.image.now c.requires.0.ok c.args.p c.requires.0.parts c.args.val c.args.a c.args.b c.requires.1)
+    (selecting.indexed c.args.image.now c.requires.0.ok c.args.p c.requires.0.parts, c.halve_high-from.ensures.upto, c.requires.1.upto, halved.few c.args.image.now c.requires.0.ok c.args.p c.requires.0.parts c.args.val c.args.a c.args.b c.requires.1)
 
 pub returns : goal.returns
 returns c =

@@ -11,31 +11,31 @@ use Rattle.elias_fano_walk.proofs.Walked as walked
 use Rattle.elias_fano_walk.proofs.walk.lows_of.Goals as goal
 
 pub overflow_shr-w : goal.overflow_shr-w
-overflow_shr-w c = selecting.low_small c.args.image.now c.requires.0 c.args.p c.requires.1
+overflow_shr-w c = selecting.low_small c.args.image.now c.requires.0.ok c.args.p c.requires.0.parts
 
 pub returns-then-w-p-ne0 : goal.returns-then-w-p-ne0
-returns-then-w-p-ne0 c = ((c.requires.2 c.requires.3).lows, c.if-w-p-ne0.true)
+returns-then-w-p-ne0 c = ((c.requires.1 c.requires.2).lows, c.if-w-p-ne0.true)
 
 pub offset_bounds-image-start : goal.offset_bounds-image-start
-offset_bounds-image-start c = let e = standing.low_end c.args.image.now c.args.p c.requires.1 (found c.args.image.now c.requires.0).head in record { fits = omega (arith, c.well_formed) }
+offset_bounds-image-start c = let e = standing.low_end c.args.image.now c.args.p c.requires.0.parts (found c.args.image.now c.requires.0.ok).head in record { fits = omega (arith, c.well_formed) }
 
 pub slice_bounds-bits_at-count : goal.slice_bounds-bits_at-count
-slice_bounds-bits_at-count c = standing.low_ones c.args.image.now c.args.p c.requires.1 (found c.args.image.now c.requires.0).head
+slice_bounds-bits_at-count c = standing.low_ones c.args.image.now c.args.p c.requires.0.parts (found c.args.image.now c.requires.0.ok).head
 
 pub slice_bounds-bits_at-start : goal.slice_bounds-bits_at-start
-slice_bounds-bits_at-start c = standing.low_ones c.args.image.now c.args.p c.requires.1 (found c.args.image.now c.requires.0).head
+slice_bounds-bits_at-start c = standing.low_ones c.args.image.now c.args.p c.requires.0.parts (found c.args.image.now c.requires.0.ok).head
 
 pub slice_bounds-bits_at-end : goal.slice_bounds-bits_at-end
-slice_bounds-bits_at-end c = standing.ones_end c.args.image.now c.args.p c.requires.1 (found c.args.image.now c.requires.0).head
+slice_bounds-bits_at-end c = standing.ones_end c.args.image.now c.args.p c.requires.0.parts (found c.args.image.now c.requires.0.ok).head
 
 pub overflow_mul-w : goal.overflow_mul-w
-overflow_mul-w c = record { fits = walked.low_fits c.args.image.now c.requires.0 c.args.p c.requires.1 c.args.w.number c.requires.3 }
+overflow_mul-w c = record { fits = walked.low_fits c.args.image.now c.requires.0.ok c.args.p c.requires.0.parts c.args.w.number c.requires.2 }
 
 pub bits_at-requires : goal.bits_at-requires
 bits_at-requires c =
-    walked.low_below c.args.image.now c.requires.0 c.args.p c.requires.1 c.args.w.number c.requires.3 c.args.w.lows (c.requires.2 c.requires.3).lows c.if-w-p-ne0.false
+    walked.low_below c.args.image.now c.requires.0.ok c.args.p c.requires.0.parts c.args.w.number c.requires.2 c.args.w.lows (c.requires.1 c.requires.2).lows c.if-w-p-ne0.false
 
 pub returns : goal.returns
 returns c =
     let f : c.bits_at.result < 2 ^ 64 = omega arith in
-    lows.many_read (low_part c.args.image.now c.args.p) (c.args.w.number * c.args.p.low_len) c.bits_at.result f c.bits_at.ensures c.args.p.low_len (selecting.low_small c.args.image.now c.requires.0 c.args.p c.requires.1)
+    lows.many_read (low_part c.args.image.now c.args.p) (c.args.w.number * c.args.p.low_len) c.bits_at.result f c.bits_at.ensures c.args.p.low_len (selecting.low_small c.args.image.now c.requires.0.ok c.args.p c.requires.0.parts)

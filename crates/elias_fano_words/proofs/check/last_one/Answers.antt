@@ -13,10 +13,10 @@ bounds-words-i c = omega (arith, last-time.used_pos c.args.words.now (λ i. (c.s
 
 pub overflow_add-result : goal.overflow_add-result
 overflow_add-result c =
-    omega (arith, last-time.last_lt c.args.words.now (λ i. (c.shared_slice_known-1.given i).fits) c.requires.0 c.last_used-i.result c.last_used-i.ensures c.in-At.bit (sym c.in-At.is ∙ c.msb.ensures), last-time.used_pos c.args.words.now (λ i. (c.shared_slice_known-1.given i).fits) c.requires.0 c.last_used-i.result c.last_used-i.ensures, c.last_used-i.ensures.upto, c.requires.1)
+    omega (arith, last-time.last_lt c.args.words.now (λ i. (c.shared_slice_known-1.given i).fits) c.requires.0 c.last_used-i.result c.last_used-i.ensures c.in-Some.bit (sym c.in-Some.is ∙ c.msb.ensures), last-time.used_pos c.args.words.now (λ i. (c.shared_slice_known-1.given i).fits) c.requires.0 c.last_used-i.result c.last_used-i.ensures, c.last_used-i.ensures.upto, c.requires.1)
 
-pub returns-in-At : goal.returns-in-At
-returns-in-At c = last-time.last_in c.args.words.now (λ i. (c.shared_slice_known-1.given i).fits) c.requires.0 c.last_used-i.result c.last_used-i.ensures c.in-At.bit (sym c.in-At.is ∙ c.msb.ensures)
+pub returns-in-Some : goal.returns-in-Some
+returns-in-Some c = last-time.last_in c.args.words.now (λ i. (c.shared_slice_known-1.given i).fits) c.requires.0 c.last_used-i.result c.last_used-i.ensures c.in-Some.bit (sym c.in-Some.is ∙ c.msb.ensures)
 
-pub returns-in-Nothing : goal.returns-in-Nothing
-returns-in-Nothing c = absurd (last-time.last_some c.args.words.now (λ i. (c.shared_slice_known-1.given i).fits) c.requires.0 c.last_used-i.result c.last_used-i.ensures (sym c.in-Nothing.is ∙ c.msb.ensures))
+pub returns-in-None : goal.returns-in-None
+returns-in-None c = absurd (last-time.last_some c.args.words.now (λ i. (c.shared_slice_known-1.given i).fits) c.requires.0 c.last_used-i.result c.last_used-i.ensures (sym c.in-None.is ∙ c.msb.ensures))

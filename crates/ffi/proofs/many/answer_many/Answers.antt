@@ -10,12 +10,12 @@ use Rattle.ffi.proofs.Telling as telling
 use Rattle.ffi.proofs.many.answer_many.Goals as goal
 
 pub answer_fitting-requires : goal.answer_fitting-requires
-answer_fitting-requires c = let h = answers.is_open _ _ _ c.«open».ensures c.in-Image.is in record { ok = h.0; parts = h.1 }
+answer_fitting-requires c = answers.opened _ _ c.in_ok-p.ensures
 
-pub returns-in-Image : goal.returns-in-Image
-returns-in-Image c = telling.outcome_told _ _ c.answer_fitting.ensures
+pub returns-in-Ok : goal.returns-in-Ok
+returns-in-Ok c = telling.outcome_told _ _ c.answer_fitting.ensures
 
-pub returns-in-Refused : goal.returns-in-Refused
-returns-in-Refused c =
-    let h = answers.not_open c.args.words.now _ _ c.«open».ensures c.in-Refused.is in
+pub returns-in-Err : goal.returns-in-Err
+returns-in-Err c =
+    let h = answers.not_open c.args.words.now _ _ c.«open».ensures c.in-Err.is in
     telling.outcome_told _ _ (answering.many_refused (accepted c.args.words.now) (λ x. query c.args.words.now (question_of c.args.kind x)) c.args.args.now c.args.out.now _ h.0 (c.number.ensures ∙ h.1))

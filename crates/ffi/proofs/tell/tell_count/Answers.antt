@@ -1,15 +1,15 @@
 -- `ffi::tell::tell_count` meets its contract.
 -- Assumes nothing.
+use Rattle.errors.specs.Answer.{of_optional}
 use mathlib.Core.Path.{refl}
-use Rattle.bit_vectors.specs.Queries.{of_count}
 use Rattle.ffi.proofs.Telling as telling
 use Rattle.ffi.proofs.tell.tell_count.Goals as goal
 
 pub returns-in-Ones : goal.returns-in-Ones
-returns-in-Ones c = telling.case_told of_count _ _ c.in-Ones.is
+returns-in-Ones c = telling.case_told of_optional _ _ c.in-Ones.is
 
-pub returns-in-Nothing : goal.returns-in-Nothing
-returns-in-Nothing c = telling.case_told of_count _ _ c.in-Nothing.is
+pub returns-in-None : goal.returns-in-None
+returns-in-None c = telling.case_told of_optional _ _ c.in-None.is
 
-pub returns-in-Refused : goal.returns-in-Refused
-returns-in-Refused c = telling.no_case_told of_count _ _ c.in-Refused.is _ _ refl c.number.ensures
+pub returns-in-Err : goal.returns-in-Err
+returns-in-Err c = telling.no_case_told of_optional _ _ c.in-Err.is _ _ refl c.number.ensures

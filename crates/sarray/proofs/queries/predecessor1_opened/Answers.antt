@@ -6,16 +6,16 @@ use Rattle.sarray.proofs.Answering as answering
 use Rattle.sarray.proofs.queries.predecessor1_opened.Goals as goal
 
 pub returns-then-not-v : goal.returns-then-not-v
-returns-then-not-v c = answering.predecessor_8 c.args.image.now c.args.v c.requires.0 c.if-not-v.true c.args.pos
+returns-then-not-v c = answering.predecessor_8 c.args.image.now c.args.v c.requires c.if-not-v.true c.args.pos
 
 pub returns-then-v-pos : goal.returns-then-v-pos
-returns-then-v-pos c = answering.predecessor_past c.args.image.now c.args.v c.requires.0 c.if-not-v.false c.args.pos (omega (arith, c.if-v-pos.true))
+returns-then-v-pos c = answering.predecessor_past c.args.image.now c.args.v c.requires c.if-not-v.false c.args.pos (omega (arith, c.if-v-pos.true))
 
 pub returns-then-v-eq0 : goal.returns-then-v-eq0
-returns-then-v-eq0 c = answering.predecessor_zeros c.args.image.now c.args.v c.requires.0 c.if-not-v.false c.args.pos c.if-v-eq0.true
+returns-then-v-eq0 c = answering.predecessor_zeros c.args.image.now c.args.v c.requires c.if-not-v.false c.args.pos c.if-v-eq0.true
 
 pub predecessor_opened-requires : goal.predecessor_opened-requires
-predecessor_opened-requires c = answering.is_open c.args.image.now c.args.v c.requires.0 c.if-v-eq0.false _ c.requires.1
+predecessor_opened-requires c = answering.is_open c.args.image.now c.args.v c.requires c.if-v-eq0.false
 
 pub returns : goal.returns
-returns c = c.place_of.ensures ∙ c.predecessor_opened.ensures ∙ answering.predecessor_is c.args.image.now c.args.v c.requires.0 c.if-not-v.false c.args.pos (omega (arith, c.if-v-pos.false)) c.if-v-eq0.false
+returns c = c.place_of.ensures ∙ c.predecessor_opened.ensures ∙ answering.predecessor_is c.args.image.now c.args.v c.requires c.if-not-v.false c.args.pos (omega (arith, c.if-v-pos.false)) c.if-v-eq0.false

@@ -1,14 +1,17 @@
 -- `sarray::queries::successor1` meets its contract.
 -- Assumes nothing.
+use mathlib.Core.Path.{refl, ap, ◌∙◌}
+use Rattle.errors.specs.Answer.{of_optional}
+use Rattle.errors.proofs.Passing as passing
 use Rattle.sarray.specs.Ask.{Successor1}
 use Rattle.sarray.proofs.Vectors as vectors
 use Rattle.sarray.proofs.queries.successor1.Goals as goal
 
 pub successor1_opened-requires : goal.successor1_opened-requires
-successor1_opened-requires c = (vectors.open_vector c.args.image.now c.args.len c.args.rank _ c.«open».ensures _ c.in-Opened.is, c.select_in_byte_table-table.ensures, c.debruijn64_table-places.ensures)
+successor1_opened-requires c = vectors.open_vector c.args.image.now c.args.len c.args.rank _ c.in_ok-v.ensures _ refl
 
-pub returns-in-Opened : goal.returns-in-Opened
-returns-in-Opened c = vectors.query_opened c.args.image.now c.args.len c.args.rank _ c.«open».ensures _ c.in-Opened.is (Successor1 c.args.pos) _ c.successor1_opened.ensures
+pub returns : goal.returns
+returns c = vectors.query_opened c.args.image.now c.args.len c.args.rank _ c.in_ok-v.ensures _ refl (Successor1 c.args.pos) _ c.successor1_opened.ensures
 
-pub returns-in-Refused : goal.returns-in-Refused
-returns-in-Refused c = vectors.query_refused c.args.image.now c.args.len c.args.rank _ c.«open».ensures _ c.in-Refused.is (Successor1 c.args.pos)
+pub returns-in_err-v : goal.returns-in_err-v
+returns-in_err-v c = ap of_optional (passing.refused_so _ _ c.from_residual.ensures.1) ∙ vectors.query_refused c.args.image.now c.args.len c.args.rank _ c.in_err-v.ensures _ refl (Successor1 c.args.pos)

@@ -5,16 +5,16 @@ use Rattle.sarray.proofs.Answering as answering
 use Rattle.sarray.proofs.queries.successor1_opened.Goals as goal
 
 pub returns-then-not-v : goal.returns-then-not-v
-returns-then-not-v c = answering.successor_8 c.args.image.now c.args.v c.requires.0 c.if-not-v.true c.args.pos
+returns-then-not-v c = answering.successor_8 c.args.image.now c.args.v c.requires c.if-not-v.true c.args.pos
 
 pub returns-then-pos-v : goal.returns-then-pos-v
-returns-then-pos-v c = answering.successor_past c.args.image.now c.args.v c.requires.0 c.if-not-v.false c.args.pos c.if-pos-v.true
+returns-then-pos-v c = answering.successor_past c.args.image.now c.args.v c.requires c.if-not-v.false c.args.pos c.if-pos-v.true
 
 pub returns-then-v-eq0 : goal.returns-then-v-eq0
-returns-then-v-eq0 c = answering.successor_zeros c.args.image.now c.args.v c.requires.0 c.if-not-v.false c.args.pos c.if-pos-v.false c.if-v-eq0.true
+returns-then-v-eq0 c = answering.successor_zeros c.args.image.now c.args.v c.requires c.if-not-v.false c.args.pos c.if-pos-v.false c.if-v-eq0.true
 
 pub successor_opened-requires : goal.successor_opened-requires
-successor_opened-requires c = (answering.is_open c.args.image.now c.args.v c.requires.0 c.if-v-eq0.false _ c.requires.1, c.requires.2)
+successor_opened-requires c = (answering.is_open c.args.image.now c.args.v c.requires c.if-v-eq0.false)
 
 pub returns : goal.returns
-returns c = c.place_of.ensures ∙ c.successor_opened.ensures ∙ answering.successor_is c.args.image.now c.args.v c.requires.0 c.if-not-v.false c.args.pos c.if-pos-v.false c.if-v-eq0.false
+returns c = c.place_of.ensures ∙ c.successor_opened.ensures ∙ answering.successor_is c.args.image.now c.args.v c.requires c.if-not-v.false c.args.pos c.if-pos-v.false c.if-v-eq0.false
