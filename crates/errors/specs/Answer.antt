@@ -32,27 +32,33 @@ abbrev pub flag : Bool → ℕ
 flag true = 1
 flag false = 0
 
+-- where f says what a value answers
+
+abbrev pub answer_if : {T : Type 0} → (T → Answer) → Option T → Answer
+answer_if f (Some x) = f x
+answer_if f None = none
+
+abbrev pub answer_or : {T : Type 0} → (T → Answer) → Result T Refusal → Answer
+answer_or f (Ok x) = f x
+answer_or f (Err e) = refused (number_of e)
+
+abbrev pub of_bool : Bool → Answer
+of_bool b = value (flag b)
+
 abbrev pub of_option : Option ℕ → Answer
-of_option (Some x) = value x
-of_option None = none
+of_option = answer_if value
 
 abbrev pub of_result : Result ℕ Refusal → Answer
-of_result (Ok x) = value x
-of_result (Err e) = refused (number_of e)
+of_result = answer_or value
 
 abbrev pub of_optional : Result (Option ℕ) Refusal → Answer
-of_optional (Ok x) = of_option x
-of_optional (Err e) = refused (number_of e)
+of_optional = answer_or of_option
 
 abbrev pub of_truth : Result Bool Refusal → Answer
-of_truth (Ok b) = value (flag b)
-of_truth (Err e) = refused (number_of e)
+of_truth = answer_or of_bool
 
 abbrev pub of_bit : Result (Option Bool) Refusal → Answer
-of_bit (Ok (Some b)) = value (flag b)
-of_bit (Ok None) = none
-of_bit (Err e) = refused (number_of e)
+of_bit = answer_or (answer_if of_bool)
 
 abbrev pub of_done : Result ⊤ Refusal → Answer
-of_done (Ok x) = done
-of_done (Err e) = refused (number_of e)
+of_done = answer_or (λ x. done)

@@ -8,7 +8,7 @@ use native.Mathlib.Numerals.{add-one}
 use native.Mathlib.Omega.{arith}
 use lib.ListN.{length, get_or, take, drop, set, length-append, length-drop}
 use lib.Seq.{length-take-le, take-suc, take_at, drop-append-add, drop-drop}
-use Rattle.errors.specs.Answer.{Answer, value, refused, leaves}
+use Rattle.errors.specs.Answer.{Answer, value, refused, leaves, Outcome}
 use Rattle.bit_words.proofs.Packed.{set-two}
 use Rattle.elias_fano.specs.Accept.{accepted, times}
 use Rattle.elias_fano.specs.Ask.{asked, query}
@@ -17,22 +17,10 @@ use Rattle.sarray.specs.Ask.{sparse_ask, sparse_query}
 use Rattle.sarray.specs.declared.vector.SArray.{SArray}
 use Rattle.sarray.specs.Opened.{OpenVector}
 use Rattle.ffi.specs.declared.EfAnswer.{EfAnswer}
-use Rattle.ffi.specs.declared.many.Kind.{Kind}
-use Rattle.ffi.specs.declared.sparse.SparseKind.{SparseKind}
 use Rattle.ffi.specs.Answers.{ef_answer}
-use Rattle.ffi.specs.Many.{question_of, sparse_question_of, answer_words, both, answered, many_if}
+use Rattle.ffi.specs.Many.{answer_words, both, answered, many_if}
 
 -- ---- one answer
-
-pub one_told : (i : List ℕ) → accepted i ≡ true → (k c : Kind) (x : ℕ) (r : EfAnswer) (a : Answer) → r ≡ ef_answer a → a ≡ asked i (question_of c x) → k ≡ c → r ≡ ef_answer (query i (question_of k x))
-one_told i ok k c x r a h e ek =
-    h ∙ ap ef_answer (answers.query_opened i a (question_of c x) ok e) ∙ ap (λ (y : Kind). ef_answer (query i (question_of y x))) (sym ek)
-
-pub one-sparse : (i : List ℕ) (v : SArray) → OpenVector i v → (k c : SparseKind) (x : ℕ) (r : EfAnswer) (a : Answer) → r ≡ ef_answer a → a ≡ sparse_ask v.num_bits v.has_rank (times i) (sparse_question_of c x) → k ≡ c → r ≡ ef_answer (sparse_query v.num_bits v.has_rank i (sparse_question_of k x))
-unfolding sparse_query
-one-sparse i v o k c x r a h e ek =
-    h ∙ ap ef_answer (e ∙ sym (ap (λ (b : Bool). cond b (sparse_ask v.num_bits v.has_rank (times i) (sparse_question_of c x)) (refused 7)) o.ok))
-    ∙ ap (λ (y : SparseKind). ef_answer (sparse_query v.num_bits v.has_rank i (sparse_question_of y x))) (sym ek)
 
 pub two-stored : (l : List ℕ) (j a b : ℕ) → j + 1 < length l → set (set l j a) (j + 1) b ≡ take j l ++ a ∷ b ∷ drop (j + 2) l
 two-stored l j a b h =
@@ -122,3 +110,15 @@ module _ (ok : Bool) (f : ℕ → Answer) (xs d : List ℕ) where
   many_refused k e ek =
       ap (λ (y : ℕ). leaves (refused y) d) ek
       ∙ sym (ap (λ (b : Bool). cond b (leaves (value (both xs d)) (answered f (both xs d) xs d)) (leaves (refused 7) d)) e)
+
+  -- and as it is told
+  module _ (r : EfAnswer) where
+    pub opened_told : (n : ℕ) (w : List ℕ) → ok ≡ true → leaves (value n) w ≡ many_if true f xs d → r ≡ ef_answer (value n) → (r ≡ ef_answer (many_if ok f xs d).answer) × (w ≡ (many_if ok f xs d).words)
+    opened_told n w e m h =
+        let o : leaves (value n) w ≡ many_if ok f xs d = m ∙ ap (λ (b : Bool). many_if b f xs d) (sym e) in
+        (h ∙ ap (λ (x : Outcome). ef_answer x.answer) o, ap (λ (x : Outcome). x.words) o)
+
+    pub refused_told : (k : ℕ) → (ok ≡ false) × (k ≡ 7) → r ≡ ef_answer (refused k) → (r ≡ ef_answer (many_if ok f xs d).answer) × (d ≡ (many_if ok f xs d).words)
+    refused_told k e h =
+        let o = many_refused k e.0 e.1 in
+        (h ∙ ap (λ (x : Outcome). ef_answer x.answer) o, ap (λ (x : Outcome). x.words) o)

@@ -1,29 +1,15 @@
 -- What many questions leave in the words that are lent for their answers. i is an image. Assumes nothing.
-use Rattle.std.specs.Prelude.{List, [], ◌∷◌, ◌++◌, Bool, cond, ℕ, ◌*◌, ◌/◌, min, length, take, drop}
+use Rattle.std.specs.Prelude.{◌≡◌, List, [], ◌∷◌, ◌++◌, Bool, cond, ℕ, ◌*◌, ◌/◌, min, length, take, drop}
 use Rattle.errors.specs.Answer.{Answer, value, refused, Outcome, leaves}
 use Rattle.elias_fano.specs.Accept.{accepted}
 use Rattle.elias_fano.specs.Ask.{Question, Select, Delta, Rank, Predecessor, Successor, Binsearch, query}
 use Rattle.sarray.specs.Ask.{SparseQuestion, Access, Rank1, Select1, Predecessor1, Successor1, is_vector, sparse_query}
-use Rattle.ffi.specs.declared.many.Kind.{Kind}
-use Rattle.ffi.specs.declared.many.Kind.TheVariants as kind
-use Rattle.ffi.specs.declared.sparse.SparseKind.{SparseKind}
-use Rattle.ffi.specs.declared.sparse.SparseKind.TheVariants as sparse-kind
+use Rattle.ffi.specs.declared.EfAnswer.{EfAnswer}
 use Rattle.ffi.specs.Answers.{ef_answer}
 
-abbrev pub question_of : Kind → ℕ → Question
-question_of kind.Select x = Select x
-question_of kind.Delta x = Delta x
-question_of kind.Rank x = Rank x
-question_of kind.Predecessor x = Predecessor x
-question_of kind.Successor x = Successor x
-question_of kind.Binsearch x = Binsearch x
-
-abbrev pub sparse_question_of : SparseKind → ℕ → SparseQuestion
-sparse_question_of sparse-kind.Access x = Access x
-sparse_question_of sparse-kind.Rank1 x = Rank1 x
-sparse_question_of sparse-kind.Select1 x = Select1 x
-sparse_question_of sparse-kind.Predecessor1 x = Predecessor1 x
-sparse_question_of sparse-kind.Successor1 x = Successor1 x
+-- each call answers as f says
+abbrev pub Answering : {F : Type 0} → (F → ℕ → EfAnswer → Type 0) → F → (ℕ → Answer) → Type 0
+Answering post answer f = (x : ℕ) (r : EfAnswer) → post answer x r → r ≡ ef_answer (f x)
 
 -- the answers to the arguments, two words to each: its kind and its value
 unfoldable pub answer_words : (ℕ → Answer) → List ℕ → List ℕ

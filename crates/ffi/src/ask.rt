@@ -6,7 +6,7 @@ ghost use Rattle.winters.specs.Winters.{compare_of};
 ghost use Rattle.ffi.specs.Answers.{ef_answer};
 
 use crate::EfAnswer;
-use crate::tell::{tell_number, tell_truth, tell_value};
+use crate::tell::Tell;
 use elias_fano::image::select;
 use elias_fano_queries::delta::delta;
 use elias_fano_queries::header::{has_rank, is_empty, len, universe};
@@ -22,7 +22,7 @@ use winters::compare;
 pub extern "C" fn ef_select(words: &[u64], k: usize) -> EfAnswer
     ensures { result ≡ ef_answer (query words.now (Select k)) }
 {
-    tell_value(select(words, k))
+    select(words, k).tell()
 }
 
 // The value with the number k less the one before it; the first value for 0.
@@ -30,7 +30,7 @@ pub extern "C" fn ef_select(words: &[u64], k: usize) -> EfAnswer
 pub extern "C" fn ef_delta(words: &[u64], k: usize) -> EfAnswer
     ensures { result ≡ ef_answer (query words.now (Delta k)) }
 {
-    tell_value(delta(words, k))
+    delta(words, k).tell()
 }
 
 // How many values are below val.
@@ -38,7 +38,7 @@ pub extern "C" fn ef_delta(words: &[u64], k: usize) -> EfAnswer
 pub extern "C" fn ef_rank(words: &[u64], val: u64) -> EfAnswer
     ensures { result ≡ ef_answer (query words.now (Rank val)) }
 {
-    tell_number(rank(words, val))
+    rank(words, val).tell()
 }
 
 // The greatest value at or below val.
@@ -46,7 +46,7 @@ pub extern "C" fn ef_rank(words: &[u64], val: u64) -> EfAnswer
 pub extern "C" fn ef_predecessor(words: &[u64], val: u64) -> EfAnswer
     ensures { result ≡ ef_answer (query words.now (Predecessor val)) }
 {
-    tell_value(predecessor(words, val))
+    predecessor(words, val).tell()
 }
 
 // The smallest value at or above val.
@@ -54,7 +54,7 @@ pub extern "C" fn ef_predecessor(words: &[u64], val: u64) -> EfAnswer
 pub extern "C" fn ef_successor(words: &[u64], val: u64) -> EfAnswer
     ensures { result ≡ ef_answer (query words.now (Successor val)) }
 {
-    tell_value(successor(words, val))
+    successor(words, val).tell()
 }
 
 // The number of a value that is val.
@@ -62,7 +62,7 @@ pub extern "C" fn ef_successor(words: &[u64], val: u64) -> EfAnswer
 pub extern "C" fn ef_binsearch(words: &[u64], val: u64) -> EfAnswer
     ensures { result ≡ ef_answer (query words.now (Binsearch val)) }
 {
-    tell_number(binsearch(words, val))
+    binsearch(words, val).tell()
 }
 
 // The number of a value that is val, from a on and below b.
@@ -70,7 +70,7 @@ pub extern "C" fn ef_binsearch(words: &[u64], val: u64) -> EfAnswer
 pub extern "C" fn ef_binsearch_range(words: &[u64], a: usize, b: usize, val: u64) -> EfAnswer
     ensures { result ≡ ef_answer (query words.now (BinsearchRange a b val)) }
 {
-    tell_number(binsearch_range(words, a, b, val))
+    binsearch_range(words, a, b, val).tell()
 }
 
 // How many values there are.
@@ -78,7 +78,7 @@ pub extern "C" fn ef_binsearch_range(words: &[u64], a: usize, b: usize, val: u64
 pub extern "C" fn ef_len(words: &[u64]) -> EfAnswer
     ensures { result ≡ ef_answer (query words.now Len) }
 {
-    tell_number(len(words))
+    len(words).tell()
 }
 
 // Whether there is no value.
@@ -86,7 +86,7 @@ pub extern "C" fn ef_len(words: &[u64]) -> EfAnswer
 pub extern "C" fn ef_is_empty(words: &[u64]) -> EfAnswer
     ensures { result ≡ ef_answer (query words.now IsEmpty) }
 {
-    tell_truth(is_empty(words))
+    is_empty(words).tell()
 }
 
 // What every value is below.
@@ -94,7 +94,7 @@ pub extern "C" fn ef_is_empty(words: &[u64]) -> EfAnswer
 pub extern "C" fn ef_universe(words: &[u64]) -> EfAnswer
     ensures { result ≡ ef_answer (query words.now Universe) }
 {
-    tell_value(universe(words))
+    universe(words).tell()
 }
 
 // Whether rank and neighbours can be asked.
@@ -102,7 +102,7 @@ pub extern "C" fn ef_universe(words: &[u64]) -> EfAnswer
 pub extern "C" fn ef_has_rank(words: &[u64]) -> EfAnswer
     ensures { result ≡ ef_answer (query words.now HasRank) }
 {
-    tell_truth(has_rank(words))
+    has_rank(words).tell()
 }
 
 // The values from the number k on, as many as `out` takes; how many were written. The later words stay.
@@ -110,7 +110,7 @@ pub extern "C" fn ef_has_rank(words: &[u64]) -> EfAnswer
 pub extern "C" fn ef_read_from(words: &[u64], k: usize, out: &mut [u64]) -> EfAnswer
     ensures { (result ≡ ef_answer (read_from_of words.now k out.old).answer) × (out.new ≡ (read_from_of words.now k out.old).words) }
 {
-    tell_number(read_from(words, k, &mut *out))
+    read_from(words, k, &mut *out).tell()
 }
 
 // How many values from `from` on and below `to` are in the weekly windows.
@@ -123,7 +123,7 @@ pub extern "C" fn ef_count_in_windows(
 ) -> EfAnswer
     ensures { result ≡ ef_answer (count_of words.now windows.now from to) }
 {
-    tell_number(count(words, windows, from, to))
+    count(words, windows, from, to).tell()
 }
 
 // Of each span between two neighbouring seconds the number of values, the first, the last and the shortest gap; how many spans there are. The later words stay.
@@ -131,5 +131,5 @@ pub extern "C" fn ef_count_in_windows(
 pub extern "C" fn ef_compare(words: &[u64], seconds: &[u64], out: &mut [u64]) -> EfAnswer
     ensures { (result ≡ ef_answer (compare_of words.now seconds.now out.old).answer) × (out.new ≡ (compare_of words.now seconds.now out.old).words) }
 {
-    tell_number(compare(words, seconds, &mut *out))
+    compare(words, seconds, &mut *out).tell()
 }

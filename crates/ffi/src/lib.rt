@@ -18,11 +18,10 @@ mod sparse;
 mod sums;
 mod tell;
 
-use crate::tell::{tell_built, tell_number};
+use crate::tell::Tell;
 use elias_fano::builder::Builder;
 use elias_fano::{builder, image};
 use elias_fano_from_bits::build::from_bits;
-use errors::number;
 use errors::Refusal;
 
 // How far a record is written.
@@ -58,38 +57,55 @@ pub const EF_NONE: u64 = 1;
 
 pub const EF_REFUSED: u64 = 2;
 
-fn outer(b: Builder) -> EfBuilder
-    ensures { of_builder result ≡ b }
-{
-    EfBuilder {
-        universe: b.universe,
-        num_vals: b.num_vals,
-        num_pushed: b.num_pushed,
-        last: b.last,
+impl From<Builder> for EfBuilder {
+    ghost from_gives = { λ b r. of_builder r ≡ b };
+
+    fn from(b: Builder) -> EfBuilder {
+        let Builder {
+            universe,
+            num_vals,
+            num_pushed,
+            last,
+        } = b;
+        EfBuilder {
+            universe,
+            num_vals,
+            num_pushed,
+            last,
+        }
     }
 }
 
-fn inner(b: EfBuilder) -> Builder
-    ensures { result ≡ of_builder b }
-{
-    Builder {
-        universe: b.universe,
-        num_vals: b.num_vals,
-        num_pushed: b.num_pushed,
-        last: b.last,
+impl From<EfBuilder> for Builder {
+    ghost from_gives = { λ b r. r ≡ of_builder b };
+
+    fn from(b: EfBuilder) -> Builder {
+        let EfBuilder {
+            universe,
+            num_vals,
+            num_pushed,
+            last,
+        } = b;
+        Builder {
+            universe,
+            num_vals,
+            num_pushed,
+            last,
+        }
     }
 }
 
+// A refused call leaves the builder that was handed in.
 fn told(b: EfBuilder, p: Result<Builder, Refusal>) -> EfPushed
     ensures { Told b p result }
 {
     match p {
         Ok(next) => EfPushed {
             refusal: 0,
-            builder: outer(next),
+            builder: EfBuilder::from(next),
         },
         Err(e) => EfPushed {
-            refusal: number(e),
+            refusal: u64::from(e),
             builder: b,
         },
     }
@@ -100,7 +116,7 @@ fn told(b: EfBuilder, p: Result<Builder, Refusal>) -> EfPushed
 pub extern "C" fn ef_limit(universe: u64, num_vals: u64, rank: bool) -> EfAnswer
     ensures { result ≡ ef_answer (limit_of universe num_vals rank) }
 {
-    tell_number(builder::limit(universe, num_vals, rank))
+    builder::limit(universe, num_vals, rank).tell()
 }
 
 // Begins a record.
@@ -124,7 +140,7 @@ pub extern "C" fn ef_new(universe: u64, num_vals: u64, buffer: &mut [u64]) -> Ef
 pub extern "C" fn ef_push(b: EfBuilder, val: u64, buffer: &mut [u64]) -> EfPushed
     ensures { made (of_refusal result.refusal) (of_builder result.builder) buffer.new ≡ push_of (of_builder b) val buffer.old }
 {
-    told(b, builder::push(inner(b), val, &mut *buffer))
+    told(b, builder::push(Builder::from(b), val, &mut *buffer))
 }
 
 // Whether a builder and words that were stored can be gone on with.
@@ -132,7 +148,7 @@ pub extern "C" fn ef_push(b: EfBuilder, val: u64, buffer: &mut [u64]) -> EfPushe
 pub extern "C" fn ef_resume(b: EfBuilder, words: &[u64]) -> EfPushed
     ensures { made (of_refusal result.refusal) (of_builder result.builder) words.now ≡ resume_of (of_builder b) words.now }
 {
-    told(b, builder::resume(inner(b), words))
+    told(b, builder::resume(Builder::from(b), words))
 }
 
 // Makes an image of the words: its length, or a refusal.
@@ -140,7 +156,7 @@ pub extern "C" fn ef_resume(b: EfBuilder, words: &[u64]) -> EfPushed
 pub extern "C" fn ef_build(b: EfBuilder, rank: bool, buffer: &mut [u64]) -> EfAnswer
     ensures { (result ≡ ef_answer (build_of (of_builder b) rank buffer.old).answer) × (buffer.new ≡ (build_of (of_builder b) rank buffer.old).words) }
 {
-    tell_built(builder::build(inner(b), rank, &mut *buffer))
+    builder::build(Builder::from(b), rank, &mut *buffer).tell()
 }
 
 // Makes an image of the places of the ones among so many bits: its length, or a refusal.
@@ -153,7 +169,7 @@ pub extern "C" fn ef_from_bits(
 ) -> EfAnswer
     ensures { (result ≡ ef_answer (from_bits_of words.now len rank buffer.old).answer) × (buffer.new ≡ (from_bits_of words.now len rank buffer.old).words) }
 {
-    tell_built(from_bits(words, len, rank, &mut *buffer))
+    from_bits(words, len, rank, &mut *buffer).tell()
 }
 
 // Decides whether an image is one that some run writes: 0, or the refusal's number.
@@ -162,7 +178,7 @@ pub extern "C" fn ef_open(words: &[u64]) -> u64
     ensures { result ≡ ef_opened (open_of words.now) }
 {
     match image::open(words) {
-        Ok(_p) => 0,
-        Err(e) => number(e),
+        Ok(_) => 0,
+        Err(e) => u64::from(e),
     }
 }

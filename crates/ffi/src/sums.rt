@@ -5,7 +5,7 @@ ghost use Rattle.prefix_summed_elias_fano.specs.Sums.{from_slice_of, access_of, 
 ghost use Rattle.ffi.specs.Answers.{ef_answer};
 
 use crate::EfAnswer;
-use crate::tell::{tell_built, tell_number, tell_value};
+use crate::tell::Tell;
 use prefix_summed_elias_fano::access;
 use prefix_summed_elias_fano::build::from_slice;
 use prefix_summed_elias_fano::walk::read_items;
@@ -15,7 +15,7 @@ use prefix_summed_elias_fano::walk::read_items;
 pub extern "C" fn ef_sums_from_slice(items: &[u64], buffer: &mut [u64]) -> EfAnswer
     ensures { (result ≡ ef_answer (from_slice_of items.now buffer.old).answer) × (buffer.new ≡ (from_slice_of items.now buffer.old).words) }
 {
-    tell_built(from_slice(items, &mut *buffer))
+    from_slice(items, &mut *buffer).tell()
 }
 
 // The item at a place.
@@ -23,7 +23,7 @@ pub extern "C" fn ef_sums_from_slice(items: &[u64], buffer: &mut [u64]) -> EfAns
 pub extern "C" fn ef_sums_access(words: &[u64], pos: usize) -> EfAnswer
     ensures { result ≡ ef_answer (access_of words.now pos) }
 {
-    tell_value(access::access(words, pos))
+    access::access(words, pos).tell()
 }
 
 // How many items there are.
@@ -31,7 +31,7 @@ pub extern "C" fn ef_sums_access(words: &[u64], pos: usize) -> EfAnswer
 pub extern "C" fn ef_sums_len(words: &[u64]) -> EfAnswer
     ensures { result ≡ ef_answer (len_of words.now) }
 {
-    tell_number(access::len(words))
+    access::len(words).tell()
 }
 
 // The items from the place k on, as many as `out` takes; how many were written. The later words stay.
@@ -39,5 +39,5 @@ pub extern "C" fn ef_sums_len(words: &[u64]) -> EfAnswer
 pub extern "C" fn ef_sums_read(words: &[u64], k: usize, out: &mut [u64]) -> EfAnswer
     ensures { (result ≡ ef_answer (read_items_of words.now k out.old).answer) × (out.new ≡ (read_items_of words.now k out.old).words) }
 {
-    tell_number(read_items(words, k, &mut *out))
+    read_items(words, k, &mut *out).tell()
 }

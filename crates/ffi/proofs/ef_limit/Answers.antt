@@ -1,7 +1,0 @@
--- `ffi::ef_limit` meets its contract. Assumes nothing.
-use mathlib.Core.Path.{ap, ◌∙◌}
-use Rattle.ffi.specs.Answers.{ef_answer}
-use Rattle.ffi.proofs.ef_limit.Goals as goal
-
-pub returns : goal.returns
-returns c = c.tell_number.ensures ∙ ap ef_answer c.limit.ensures
