@@ -1,5 +1,7 @@
 -- A walk stays a walk: `new` begins one, and a step that gives a place leaves one, further on. Assumes nothing.
-use Rattle.std.specs.Prelude.{Ok, Some, None, Option}
+use Rattle.std.specs.Prelude.{Ok, Err, Some, None, Result, Option}
+use Rattle.std.specs.Result.{result_unwrap_or}
+use Rattle.errors.specs.declared.Refusal.{Refusal}
 use Rattle.std.proofs.Common.{◌≡◌, ℕ, ◌+◌, ◌-◌, ◌/◌, ◌<◌, ◌≤◌, Bool, true, false, leb, List, sym, refl, ap, ◌∙◌, subst, le_refl, lt_of_not-le, add-one, arith}
 use native.Mathlib.Decide.{dec_lt}
 use Rattle.errors.specs.Answer.{value, none, of_optional}
@@ -25,6 +27,11 @@ onward f from p o e = go (dec_lt p from)
         absurd (omega arith)
     go (no g) = omega (arith, lt_of_not-le g)
 
+-- a place that is given
+given_place : (q : Result (Option ℕ) Refusal) (p : ℕ) → result_unwrap_or q None ≡ Some p → q ≡ Ok (Some p)
+given_place (Ok x) p e = ap Ok e
+given_place (Err x) p e = let z : ◌≡◌ {A = ℕ} 0 1 = cc in absurd (omega arith)
+
 module _ (ws : List ℕ) (len : ℕ) where
   at : (p q : ℕ) → invalid ws len ≡ false → p ≤ q → q ≤ p + 1 → Walking ws len (walk_at ws len p q)
   at p q e b n = record { ok = e; behind = b; near = n; rest = refl }
@@ -32,7 +39,7 @@ module _ (ws : List ℕ) (len : ℕ) where
   pub step_keeps : (w : Unary) (r : Stepped) (p : ℕ)
       → Walking ws len w
       → of_stepped r ≡ next_of ws len w
-      → r.place ≡ (Ok (Some p))
+      → result_unwrap_or r.place None ≡ Some p
       → Walking ws len r.walk × (len - r.walk.from < len - w.from)
   step_keeps w r p h e a = go (select (bit_over true ws) len (count (bit_over true ws) w.from + 0)) refl
     where
@@ -49,7 +56,7 @@ module _ (ws : List ℕ) (len : ℕ) where
       go None s =
           let t : of_stepped r ≡ given ws len 1 None = e ∙ step_ok ws len w true 1 0 None h.ok s in
           let v : of_optional r.place ≡ none = ap (λ (y : Step). y.answer) t in
-          let u : of_optional r.place ≡ value p = ap of_optional a in
+          let u : of_optional r.place ≡ value p = ap of_optional (given_place r.place p a) in
           let z : ◌≡◌ {A = ℕ} 0 1 = cc in
           absurd (omega arith)
 

@@ -5,7 +5,6 @@
 // compares with those of the Rust. A none counts as 64 for a place in a word, and as the length for a place in a bit vector.
 #![tactic(auto)]
 
-ghost use Rattle.std.specs.Prelude.{ℕ, List};
 ghost use Rattle.bit_vectors.specs.Walk.{Walking};
 ghost use Rattle.darray.specs.Select.{Indexed};
 
@@ -17,29 +16,24 @@ use bit_vectors::unary::{Unary, new, next_within};
 use broadword::{lsb, msb, popcount, select_in_word};
 use darray::inner::build;
 use darray::select::select;
-use std::num::wrapping_add_u64;
 use errors::Refusal;
-
-fn wide(x: usize) -> u64 {
-    x as u64
-}
 
 // A place, or what a none counts as.
 fn place_or(found: Option<usize>, none: usize) -> u64 {
-    match found {
-        Some(i) => wide(i),
-        None => wide(none),
-    }
+    found.unwrap_or(none) as u64
+}
+
+// The same of a call that may be refused, which counts as 0.
+fn answer_or(found: Result<Option<usize>, Refusal>, none: usize) -> u64 {
+    place_or(found.unwrap_or(Some(0)), none)
 }
 
 // The number of ones of each word.
 #[unsafe(no_mangle)]
 pub extern "C" fn bench_popcount(words: &[u64]) -> u64 {
     let mut sum: u64 = 0;
-    let mut i: usize = 0;
-    while i < words.len() {
-        sum = wrapping_add_u64(sum, wide(popcount(words[i])));
-        i += 1;
+    for w in words {
+        sum = sum.wrapping_add(popcount(*w) as u64);
     }
     sum
 }
@@ -48,10 +42,8 @@ pub extern "C" fn bench_popcount(words: &[u64]) -> u64 {
 #[unsafe(no_mangle)]
 pub extern "C" fn bench_lsb(words: &[u64]) -> u64 {
     let mut sum: u64 = 0;
-    let mut i: usize = 0;
-    while i < words.len() {
-        sum = wrapping_add_u64(sum, place_or(lsb(words[i]), 64));
-        i += 1;
+    for w in words {
+        sum = sum.wrapping_add(place_or(lsb(*w), 64));
     }
     sum
 }
@@ -60,71 +52,34 @@ pub extern "C" fn bench_lsb(words: &[u64]) -> u64 {
 #[unsafe(no_mangle)]
 pub extern "C" fn bench_msb(words: &[u64]) -> u64 {
     let mut sum: u64 = 0;
-    let mut i: usize = 0;
-    while i < words.len() {
-        sum = wrapping_add_u64(sum, place_or(msb(words[i]), 64));
-        i += 1;
+    for w in words {
+        sum = sum.wrapping_add(place_or(msb(*w), 64));
     }
     sum
 }
 
-// In each word, the one that as many stand before as the second slice says: the table is made once and lent.
-#[unsafe(no_mangle)]
-pub extern "C" fn bench_select_in_word_by(words: &[u64], ks: &[usize]) -> u64 {
-    let mut sum: u64 = 0;
-    let mut i: usize = 0;
-    while i < words.len() {
-        if i >= ks.len() {
-            break;
-        }
-        sum = wrapping_add_u64(
-            sum,
-            place_or(select_in_word(words[i], ks[i]), 64),
-        );
-        i += 1;
-    }
-    sum
-}
-
-// The same, and each call makes the table.
+// In each word, the one that as many stand before as the second slice says.
 #[unsafe(no_mangle)]
 pub extern "C" fn bench_select_in_word(words: &[u64], ks: &[usize]) -> u64 {
     let mut sum: u64 = 0;
-    let mut i: usize = 0;
-    while i < words.len() {
-        if i >= ks.len() {
-            break;
-        }
-        sum = wrapping_add_u64(sum, place_or(select_in_word(words[i], ks[i]), 64));
-        i += 1;
+    for (w, k) in words.iter().zip(ks) {
+        sum = sum.wrapping_add(place_or(select_in_word(*w, *k), 64));
     }
     sum
 }
 
-fn count_or(count: Result<Option<usize>, Refusal>, none: usize) -> u64 {
-    match count {
-        Ok(Some(n)) => wide(n),
-        Ok(None) => wide(none),
-        Err(_) => 0,
-    }
-}
-
-fn bit_place_or(place: Result<Option<usize>, Refusal>, none: usize) -> u64 {
-    match place {
-        Ok(Some(i)) => wide(i),
-        Ok(None) => wide(none),
-        Err(_) => 0,
-    }
+// The same, under the name that it had when the table was lent: a C name stays.
+#[unsafe(no_mangle)]
+pub extern "C" fn bench_select_in_word_by(words: &[u64], ks: &[usize]) -> u64 {
+    bench_select_in_word(words, ks)
 }
 
 // The ones below each place.
 #[unsafe(no_mangle)]
 pub extern "C" fn bench_rank1(words: &[u64], len: usize, places: &[usize]) -> u64 {
     let mut sum: u64 = 0;
-    let mut i: usize = 0;
-    while i < places.len() {
-        sum = wrapping_add_u64(sum, count_or(rank1(words, len, places[i]), len));
-        i += 1;
+    for pos in places {
+        sum = sum.wrapping_add(answer_or(rank1(words, len, *pos), len));
     }
     sum
 }
@@ -133,10 +88,8 @@ pub extern "C" fn bench_rank1(words: &[u64], len: usize, places: &[usize]) -> u6
 #[unsafe(no_mangle)]
 pub extern "C" fn bench_select1(words: &[u64], len: usize, ks: &[usize]) -> u64 {
     let mut sum: u64 = 0;
-    let mut i: usize = 0;
-    while i < ks.len() {
-        sum = wrapping_add_u64(sum, bit_place_or(select1(words, len, ks[i]), len));
-        i += 1;
+    for k in ks {
+        sum = sum.wrapping_add(answer_or(select1(words, len, *k), len));
     }
     sum
 }
@@ -145,10 +98,8 @@ pub extern "C" fn bench_select1(words: &[u64], len: usize, ks: &[usize]) -> u64 
 #[unsafe(no_mangle)]
 pub extern "C" fn bench_predecessor1(words: &[u64], len: usize, places: &[usize]) -> u64 {
     let mut sum: u64 = 0;
-    let mut i: usize = 0;
-    while i < places.len() {
-        sum = wrapping_add_u64(sum, bit_place_or(predecessor1(words, len, places[i]), len));
-        i += 1;
+    for pos in places {
+        sum = sum.wrapping_add(answer_or(predecessor1(words, len, *pos), len));
     }
     sum
 }
@@ -161,18 +112,16 @@ fn walk(words: &[u64], len: usize, start: Unary) -> u64
     let mut sum: u64 = 0;
     loop {
         let s = next_within(words, len, w);
-        let place = s.place;
-        let Ok(Some(p)) = place else {
+        let Some(p) = s.place.unwrap_or(None) else {
             break;
         };
-        sum = wrapping_add_u64(sum, wide(p));
-        let next = s.walk;
-        w = next;
+        sum = sum.wrapping_add(p as u64);
+        w = s.walk;
     }
     sum
 }
 
-// A walk over all ones. The table is made once and lent.
+// A walk over all ones.
 #[unsafe(no_mangle)]
 pub extern "C" fn bench_walk(words: &[u64], len: usize) -> u64 {
     let Ok(w) = new(words, len, 0) else {
@@ -184,13 +133,10 @@ pub extern "C" fn bench_walk(words: &[u64], len: usize) -> u64 {
 // The index over the ones or the zeros: how many words it has.
 #[unsafe(no_mangle)]
 pub extern "C" fn bench_build(words: &[u64], len: usize, over_one: bool, out: &mut [u64]) -> u64 {
-    match build(words, len, over_one, &mut *out) {
-        Ok(n) => wide(n),
-        Err(_) => 0,
-    }
+    build(words, len, over_one, &mut *out).unwrap_or(0) as u64
 }
 
-// The ones, or the zeros, that as many stand before, through the index, which is that of these bits. The table is made once and lent.
+// The ones, or the zeros, that as many stand before, through the index, which is that of these bits.
 #[unsafe(no_mangle)]
 pub extern "C" fn bench_select(
     words: &[u64],
@@ -200,19 +146,11 @@ pub extern "C" fn bench_select(
     positions: usize,
     ks: &[usize],
 ) -> u64
-    requires { (t : List ℕ) →  t → Indexed words.now len over_one index.now positions t }
+    requires { Indexed words.now len over_one index.now positions }
 {
     let mut sum: u64 = 0;
-    let mut i: usize = 0;
-    while i < ks.len() {
-        sum = wrapping_add_u64(
-            sum,
-            place_or(
-                select(words, len, over_one, index, positions, ks[i]),
-                len,
-            ),
-        );
-        i += 1;
+    for k in ks {
+        sum = sum.wrapping_add(place_or(select(words, len, over_one, index, positions, *k), len));
     }
     sum
 }

@@ -1,12 +1,10 @@
 // The record: a whole list pushed, and a walk. What else the bench asks of a record it asks through the library for C.
-ghost use Rattle.elias_fano_walk.specs.Walking.{WalkOver};
 ghost use Rattle.elias_fano.specs.Opening.{Open};
+ghost use Rattle.elias_fano_walk.specs.Walking.{WalkOver};
 
 use elias_fano::builder::{new, push};
 use elias_fano::image::{Parts, open};
 use elias_fano_walk::walk::{Walk, begin, next};
-use std::num::wrapping_add_u64;
-use errors::Refusal;
 
 // Pushes the times into a fresh record: how many it took.
 #[unsafe(no_mangle)]
@@ -20,23 +18,13 @@ pub extern "C" fn bench_record_push(
         return 0;
     };
     let mut b = start;
-    let mut i: usize = 0;
-    while i < times.len() {
-        let Ok(next) = push(b, times[i], &mut *buffer) else {
+    for t in times {
+        let Ok(next) = push(b, *t, &mut *buffer) else {
             break;
         };
         b = next;
-        i += 1;
     }
     b.num_pushed
-}
-
-fn time_or(value: Result<Option<u64>, Refusal>, none: u64) -> u64 {
-    match value {
-        Ok(Some(t)) => t,
-        Ok(None) => none,
-        Err(_) => 0,
-    }
 }
 
 // So many steps of a walk: the sum of what they give, a none as 0.
@@ -45,19 +33,15 @@ fn walk_on(image: &[u64], p: Parts, from: Walk, steps: usize) -> u64
 {
     let mut w = from;
     let mut sum: u64 = 0;
-    let mut i: usize = 0;
-    while i < steps {
+    for _ in 0..steps {
         let s = next(image, p, w);
-        let value = s.value;
-        sum = wrapping_add_u64(sum, time_or(value, 0));
-        let rest = s.walk;
-        w = rest;
-        i += 1;
+        sum = sum.wrapping_add(s.value.unwrap_or(0));
+        w = s.walk;
     }
     sum
 }
 
-// A walk over an image from its first time on. The image is opened and the tables made once.
+// A walk over an image from its first time on. The image is opened once.
 #[unsafe(no_mangle)]
 pub extern "C" fn bench_record_walk(image: &[u64], steps: usize) -> u64 {
     let Ok(p) = open(image) else {
