@@ -9,6 +9,8 @@ use Rattle.errors.specs.Answer.{Answer, value, refused}
 use Rattle.errors.specs.Refusal.{number_of}
 use Rattle.errors.specs.declared.Refusal.{Refusal}
 use Rattle.elias_fano.specs.declared.image.Parts.{Parts}
+use Rattle.elias_fano.specs.declared.opened.Image.{Image}
+use Rattle.elias_fano.specs.Opened.{Opens}
 use Rattle.elias_fano.specs.Accept.{accepted, parts_of, parts, unopened, of_opened, accepted_if, open_if, open_of}
 use Rattle.elias_fano.specs.Ask.{Question, asked, query}
 use Rattle.elias_fano.specs.Opening.{Headed, Heads, Open}
@@ -71,3 +73,7 @@ module _ (i : List ℕ) where
   pub query_opened : (a : Answer) (q : Question) → accepted i ≡ true → a ≡ asked i q → a ≡ query i q
   unfolding query
   query_opened a q h e = e ∙ sym (ap (λ (b : Bool). cond b (asked i q) (refused 7)) h)
+
+-- the answer of words that are opened
+pub query_image : (w : List ℕ) (i : Image) → Opens w (Ok i) → (a : Answer) (q : Question) → a ≡ asked i.words.now q → a ≡ query w q
+query_image w i o a q e = subst (λ (v : List ℕ). a ≡ query v q) o.0 (query_opened i.words.now a q i.ok e)

@@ -6,3 +6,4 @@ pub mod Opening
 pub mod Rows
 pub mod Steps
 pub mod Testing
+pub mod Opened

@@ -8,6 +8,7 @@ ghost use Rattle.elias_fano.specs.Accept.{universe as universe_of, declared, pus
 ghost use Rattle.elias_fano.specs.Ask.{Select, asked, query};
 ghost use Rattle.elias_fano.specs.Opening.{Counts, Limits, Complete, Headed, Heads, bits_in, Indexes, Open, OneAt};
 
+use crate::opened::Image;
 use bit_words::words_for;
 use darray::inner::is_index;
 use darray::select::select_within;
@@ -215,56 +216,56 @@ pub fn open(image: &[u64]) -> Result<Parts, Refusal>
 }
 
 // The value with the number k, whose one stands at `place`.
-pub fn value_at(image: &[u64], p: Parts, k: usize, place: usize) -> u64
-    requires { OneAt image.now p k place }
-    ensures { result ≡ get_or (times image.now) k 0 }
+pub fn value_at(image: &Image, k: usize, place: usize) -> u64
+    requires { OneAt image.now.words.now image.now.parts k place }
+    ensures { result ≡ get_or (times image.now.words.now) k 0 }
 {
-    let start = p.low_at;
-    let end = p.ones_at;
-    (((place - k) as u64) << p.low_len) + low_at(&image[start..end], p.low_len, k)
+    let start = image.parts.low_at;
+    let end = image.parts.ones_at;
+    (((place - k) as u64) << image.parts.low_len)
+        + low_at(&image.words[start..end], image.parts.low_len, k)
 }
 
 // Where the one of the value with the number k stands, by the index: constant time but for the words between every 32nd one.
-pub fn one_at(image: &[u64], p: Parts, k: usize) -> usize
-    requires { Open image.now p × (k < p.num_pushed) }
-    ensures { OneAt image.now p k result }
+pub fn one_at(image: &Image, k: usize) -> usize
+    requires { k < image.now.parts.num_pushed }
+    ensures { OneAt image.now.words.now image.now.parts k result }
 {
-    let start = p.low_at;
-    let ones_at = p.ones_at;
-    let zeros_at = p.zeros_at;
+    let start = image.parts.low_at;
+    let ones_at = image.parts.ones_at;
+    let zeros_at = image.parts.zeros_at;
     select_within(
-        &image[6..start],
-        p.high_len,
+        &image.words[6..start],
+        image.parts.high_len,
         true,
-        &image[ones_at..zeros_at],
-        p.num_pushed as usize,
+        &image.words[ones_at..zeros_at],
+        image.parts.num_pushed as usize,
         k,
     )
 }
 
 // The value with the number k, which there is.
-pub fn value_of(image: &[u64], p: Parts, k: usize) -> u64
-    requires { Open image.now p × (k < p.num_pushed) }
-    ensures { result ≡ get_or (times image.now) k 0 }
+pub fn value_of(image: &Image, k: usize) -> u64
+    requires { k < image.now.parts.num_pushed }
+    ensures { result ≡ get_or (times image.now.words.now) k 0 }
 {
-    value_at(image, p, k, one_at(image, p, k))
+    value_at(image, k, one_at(image, k))
 }
 
 // The value with the number k, of an opened image.
-pub fn select_opened(image: &[u64], p: Parts, k: usize) -> Option<u64>
-    requires { Open image.now p }
-    ensures { of_option result ≡ asked image.now (Select k) }
+pub fn select_opened(image: &Image, k: usize) -> Option<u64>
+    ensures { of_option result ≡ asked image.now.words.now (Select k) }
 {
-    if k >= p.num_pushed as usize {
+    if k >= image.parts.num_pushed as usize {
         return None;
     }
-    Some(value_of(image, p, k))
+    Some(value_of(image, k))
 }
 
 // The value with the number k.
 pub fn select(image: &[u64], k: usize) -> Result<Option<u64>, Refusal>
     ensures { of_optional result ≡ query image.now (Select k) }
 {
-    let p = open(image)?;
-    Ok(select_opened(image, p, k))
+    let image = Image::open(image)?;
+    Ok(select_opened(&image, k))
 }

@@ -4,3 +4,4 @@
 pub mod builder;
 pub mod finish;
 pub mod image;
+pub mod opened;

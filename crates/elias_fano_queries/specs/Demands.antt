@@ -6,11 +6,6 @@ use Rattle.bit_words.specs.Vector.{bit_at}
 use Rattle.elias_fano.specs.declared.image.Parts.{Parts}
 use Rattle.elias_fano.specs.Opening.{Open, high_part}
 
--- an opened image with a rank index
-pub record Rankable (i : List ℕ) (p : Parts) : Type 0 where
-  pub opened : Open i p
-  pub ranked : p.rank ≡ true
-
 -- the 17 bits before a place are ones
 abbrev pub crowded : List ℕ → ℕ → Bool
 crowded ws x = ltb 16 x && eqb (word 1 (λ j. bit_at ws (x - 17 + j)) 64 % 2 ^ 17) (2 ^ 17 - 1)

@@ -3,22 +3,21 @@ ghost use Rattle.std.specs.Prelude.{true, ◌≡◌, ◌++◌, ◌-◌, ◌≤�
 ghost use Rattle.errors.specs.Answer.{leaves, of_result};
 ghost use Rattle.elias_fano.specs.Accept.{accepted, parts_of, times};
 ghost use Rattle.elias_fano.specs.Ask.{read_out, filled, read_from_of};
-ghost use Rattle.elias_fano.specs.Opening.{Open};
 ghost use Rattle.elias_fano_walk.specs.Walking.{WalkOver};
 
 use crate::walk::{Walk, begin, take};
-use elias_fano::image::{Parts, open};
+use elias_fano::opened::Image;
 use errors::Refusal;
 
 // The next `count` values are written to the first words of `out`.
-fn take_all(image: &[u64], p: Parts, from: Walk, count: usize, out: &mut [u64])
-    requires { Open image.now p × WalkOver image.now p from × (count ≤ p.num_pushed - from.number) × (count ≤ length out.old) }
-    ensures { out.new ≡ take_list count (drop from.number (times image.now)) ++ drop count out.old }
+fn take_all(image: &Image, from: Walk, count: usize, out: &mut [u64])
+    requires { WalkOver image.now.words.now image.now.parts from × (count ≤ image.now.parts.num_pushed - from.number) × (count ≤ length out.old) }
+    ensures { out.new ≡ take_list count (drop from.number (times image.now.words.now)) ++ drop count out.old }
 {
     let mut w = from;
     let mut i = 0;
     while i < count {
-        let t = take(image, p, w);
+        let t = take(image, w);
         out[i] = t.value;
         let rest = t.walk;
         w = rest;
@@ -38,13 +37,12 @@ pub fn how_many(m: usize, k: usize, room: usize) -> usize
 }
 
 // The values from the number k on, of an opened image; how many were written.
-pub fn read_from_opened(image: &[u64], p: Parts, k: usize, out: &mut [u64]) -> usize
-    requires { Open image.now p }
-    ensures { result ≡ length (read_out (times image.now) k (length out.old)) × (out.new ≡ filled (times image.now) k out.old) }
+pub fn read_from_opened(image: &Image, k: usize, out: &mut [u64]) -> usize
+    ensures { result ≡ length (read_out (times image.now.words.now) k (length out.old)) × (out.new ≡ filled (times image.now.words.now) k out.old) }
 {
-    let count = how_many(p.num_pushed as usize, k, out.len());
-    let from = begin(image, p, k);
-    take_all(image, p, from, count, &mut *out);
+    let count = how_many(image.parts.num_pushed as usize, k, out.len());
+    let from = begin(image, k);
+    take_all(image, from, count, &mut *out);
     count
 }
 
@@ -52,6 +50,6 @@ pub fn read_from_opened(image: &[u64], p: Parts, k: usize, out: &mut [u64]) -> u
 pub fn read_from(image: &[u64], k: usize, out: &mut [u64]) -> Result<usize, Refusal>
     ensures { leaves (of_result result) out.new ≡ read_from_of image.now k out.old }
 {
-    let p = open(image)?;
-    Ok(read_from_opened(image, p, k, &mut *out))
+    let image = Image::open(image)?;
+    Ok(read_from_opened(&image, k, &mut *out))
 }

@@ -8,7 +8,7 @@ ghost use Rattle.bit_words.specs.Vector.{bit_over};
 ghost use Rattle.darray.specs.Select.{Indexed};
 ghost use Rattle.elias_fano.specs.Accept.{times};
 ghost use Rattle.elias_fano.specs.Ask.{Binsearch, BinsearchRange, first_index, asked, query};
-ghost use Rattle.elias_fano.specs.Opening.{Open, OneAt};
+ghost use Rattle.elias_fano.specs.Opening.{OneAt};
 ghost use Rattle.elias_fano_walk.specs.Searching.{Range, HighStart, OnesBefore, HighSection, ScanStart, ScanSection, AllBelow, FirstFrom};
 ghost use Rattle.elias_fano_walk.specs.Walking.{WalkOver};
 
@@ -17,7 +17,8 @@ use bit_words::{WORD_LEN, window};
 use broadword::msb;
 use darray::select::select_within;
 use darray_positions::scan::SUBBLOCK_LEN;
-use elias_fano::image::{Parts, one_at, open, value_of};
+use elias_fano::image::{one_at, value_of};
+use elias_fano::opened::Image;
 use errors::Refusal;
 
 const LINEAR_SCAN_THRESHOLD: usize = 64;
@@ -125,69 +126,69 @@ fn high_section(
 
 // Where a scan for val can start, from a on and below b: the values before are below val. It calls itself on the part that can hold the first val: from the
 // number compared on if that value is below val, else up to it.
-fn halve_range(image: &[u64], p: Parts, a: usize, b: usize, val: u64) -> usize
-    requires { Open image.now p × Range p a b }
-    ensures { ScanStart (times image.now) a b val result }
+fn halve_range(image: &Image, a: usize, b: usize, val: u64) -> usize
+    requires { Range image.now.parts a b }
+    ensures { ScanStart (times image.now.words.now) a b val result }
 {
     if b - a <= LINEAR_SCAN_THRESHOLD {
         return a;
     }
     let mid = (a + b) / 2;
     let k = mid / SUBBLOCK_LEN * SUBBLOCK_LEN;
-    if value_of(image, p, k) < val {
-        return halve_range(image, p, k, b, val);
+    if value_of(image, k) < val {
+        return halve_range(image, k, b, val);
     }
-    halve_range(image, p, a, k + 1, val)
+    halve_range(image, a, k + 1, val)
 }
 
 // What is to be scanned for val, by the high bits alone, which are the zeros before its one.
-fn section_by_high(image: &[u64], p: Parts, a: usize, b: usize, val: u64) -> Section
-    requires { Open image.now p × Range p a b }
-    ensures { ScanSection image.now p a b val result }
+fn section_by_high(image: &Image, a: usize, b: usize, val: u64) -> Section
+    requires { Range image.now.parts a b }
+    ensures { ScanSection image.now.words.now image.now.parts a b val result }
 {
-    let low_at = p.low_at;
-    let ones_at = p.ones_at;
-    let zeros_at = p.zeros_at;
-    let high = &image[6..low_at];
-    let index = &image[ones_at..zeros_at];
-    let len = p.high_len;
-    let positions = p.num_pushed as usize;
-    let wanted = (val >> p.low_len) as usize;
+    let low_at = image.parts.low_at;
+    let ones_at = image.parts.ones_at;
+    let zeros_at = image.parts.zeros_at;
+    let high = &image.words[6..low_at];
+    let index = &image.words[ones_at..zeros_at];
+    let len = image.parts.high_len;
+    let positions = image.parts.num_pushed as usize;
+    let wanted = (val >> image.parts.low_len) as usize;
     let from = halve_high(&high, len, &index, positions, wanted, a, b);
     high_section(high, len, index, positions, wanted, from, b)
 }
 
 // The same: by high bits first, so that the halving reads no low word, in a run of equal values too. Where many values with the high bits of val are below
 // it, these do not tell, and the rest is halved by whole values.
-fn scan_section(image: &[u64], p: Parts, a: usize, b: usize, val: u64) -> Section
-    requires { Open image.now p × Range p a b }
-    ensures { ScanSection image.now p a b val result }
+fn scan_section(image: &Image, a: usize, b: usize, val: u64) -> Section
+    requires { Range image.now.parts a b }
+    ensures { ScanSection image.now.words.now image.now.parts a b val result }
 {
-    let section = section_by_high(image, p, a, b, val);
+    let section = section_by_high(image, a, b, val);
     let first = section.number;
     let end = section.end;
     if end - first <= SUBBLOCK_LEN {
         return section;
     }
     let next = first + SUBBLOCK_LEN;
-    if value_of(image, p, next) < val {
-        let number = halve_range(image, p, next, end, val);
-        let place = one_at(image, p, number);
+    if value_of(image, next) < val {
+        let number = halve_range(image, next, end, val);
+        let place = one_at(image, number);
         return Section { number, place, end };
     }
     section
 }
 
 // The number of the first value of the section that is val. The values do not fall, so it ends at the first that is not below val.
-fn scan_range(image: &[u64], p: Parts, section: Section, val: u64) -> Result<Option<usize>, Refusal>
-    requires { Open image.now p × OneAt image.now p section.number section.place × Range p section.number section.end }
-    ensures { of_optional result ≡ first_index val section.number (take_list (section.end - section.number) (drop section.number (times image.now))) }
+fn scan_range(image: &Image, section: Section, val: u64) -> Result<Option<usize>, Refusal>
+    requires { OneAt image.now.words.now image.now.parts section.number section.place × Range image.now.parts section.number section.end }
+    ensures { of_optional result ≡ first_index val section.number (take_list (section.end - section.number) (drop section.number (times image.now.words.now))) }
 {
     let end = section.end;
     let mut i = section.number;
-    let mut w = begin_at(image, p, i, section.place);
+    let mut w = begin_at(image, i, section.place);
     while i < end {
-        let t = take(image, p, w);
+        let t = take(image, w);
         let x = t.value;
         if x == val {
             return Ok(Some(i));
@@ -203,14 +204,14 @@ fn scan_range(image: &[u64], p: Parts, section: Section, val: u64) -> Result<Opt
 }
 
 // The walk from the first value on that is not below val; those before `from` are.
-fn skip_below(image: &[u64], p: Parts, from: Walk, val: u64) -> Walk
-    requires { Open image.now p × WalkOver image.now p from × (from.number ≤ p.num_pushed) × AllBelow (times image.now) val from.number }
-    ensures { WalkOver image.now p result × FirstFrom (times image.now) val result.number }
+fn skip_below(image: &Image, from: Walk, val: u64) -> Walk
+    requires { WalkOver image.now.words.now image.now.parts from × (from.number ≤ image.now.parts.num_pushed) × AllBelow (times image.now.words.now) val from.number }
+    ensures { WalkOver image.now.words.now image.now.parts result × FirstFrom (times image.now.words.now) val result.number }
 {
-    let end = p.num_pushed as usize;
+    let end = image.parts.num_pushed as usize;
     let mut w = from;
     while w.number < end {
-        let t = take(image, p, w);
+        let t = take(image, w);
         if val <= t.value {
             return w;
         }
@@ -221,49 +222,45 @@ fn skip_below(image: &[u64], p: Parts, from: Walk, val: u64) -> Walk
 }
 
 // The walk from the first value on that is not below val, of an opened image: by the halving of the search, and without a rank index.
-pub fn begin_from(image: &[u64], p: Parts, val: u64) -> Walk
-    requires { Open image.now p }
-    ensures { WalkOver image.now p result × FirstFrom (times image.now) val result.number }
+pub fn begin_from(image: &Image, val: u64) -> Walk
+    ensures { WalkOver image.now.words.now image.now.parts result × FirstFrom (times image.now.words.now) val result.number }
 {
-    let end = p.num_pushed as usize;
+    let end = image.parts.num_pushed as usize;
     if end == 0 {
         return ended(0);
     }
-    let section = scan_section(image, p, 0, end, val);
-    let from = begin_at(image, p, section.number, section.place);
-    skip_below(image, p, from, val)
+    let section = scan_section(image, 0, end, val);
+    let from = begin_at(image, section.number, section.place);
+    skip_below(image, from, val)
 }
 
 // The number of the first value that is val, from a on and below b, of an opened image. A range that begins with val needs no search.
 pub fn binsearch_range_opened(
-    image: &[u64],
-    p: Parts,
+    image: &Image,
     a: usize,
     b: usize,
     val: u64,
 ) -> Result<Option<usize>, Refusal>
-    requires { Open image.now p }
-    ensures { of_optional result ≡ asked image.now (BinsearchRange a b val) }
+    ensures { of_optional result ≡ asked image.now.words.now (BinsearchRange a b val) }
 {
     if a >= b {
         return Ok(None);
     }
-    if b > p.num_pushed as usize {
+    if b > image.parts.num_pushed as usize {
         return Err(Refusal::RangeOutOfBounds);
     }
-    if value_of(image, p, a) == val {
+    if value_of(image, a) == val {
         return Ok(Some(a));
     }
-    let section = scan_section(image, p, a, b, val);
-    scan_range(image, p, section, val)
+    let section = scan_section(image, a, b, val);
+    scan_range(image, section, val)
 }
 
 // The number of the first value that is val, of an opened image.
-pub fn binsearch_opened(image: &[u64], p: Parts, val: u64) -> Result<Option<usize>, Refusal>
-    requires { Open image.now p }
-    ensures { of_optional result ≡ asked image.now (Binsearch val) }
+pub fn binsearch_opened(image: &Image, val: u64) -> Result<Option<usize>, Refusal>
+    ensures { of_optional result ≡ asked image.now.words.now (Binsearch val) }
 {
-    binsearch_range_opened(image, p, 0, p.num_pushed as usize, val)
+    binsearch_range_opened(image, 0, image.parts.num_pushed as usize, val)
 }
 
 // The number of the first value that is val, from a on and below b.
@@ -275,14 +272,14 @@ pub fn binsearch_range(
 ) -> Result<Option<usize>, Refusal>
     ensures { of_optional result ≡ query image.now (BinsearchRange a b val) }
 {
-    let p = open(image)?;
-    binsearch_range_opened(image, p, a, b, val)
+    let image = Image::open(image)?;
+    binsearch_range_opened(&image, a, b, val)
 }
 
 // The number of the first value that is val.
 pub fn binsearch(image: &[u64], val: u64) -> Result<Option<usize>, Refusal>
     ensures { of_optional result ≡ query image.now (Binsearch val) }
 {
-    let p = open(image)?;
-    binsearch_opened(image, p, val)
+    let image = Image::open(image)?;
+    binsearch_opened(&image, val)
 }

@@ -5,13 +5,14 @@
 // table, so the next need not wait for them.
 ghost use Rattle.std.specs.Prelude.{◌≡◌, true, suc, ◌*◌, ◌/◌, ◌^◌, ◌<◌, get_or};
 ghost use Rattle.elias_fano.specs.Accept.{times};
-ghost use Rattle.elias_fano.specs.Opening.{Open, OneAt};
+ghost use Rattle.elias_fano.specs.Opening.{OneAt};
 ghost use Rattle.elias_fano_walk.specs.Walking.{WalkOver, OnesAhead, LowsAhead, OneTaken, low_part, of_value_step, value_step_of};
 
 use bit_vectors::unary::{skip_zeros, walk_from};
 use bit_words::{WORD_LEN, words_for};
 use broadword::lsb;
-use elias_fano::image::{Parts, one_at};
+use elias_fano::image::one_at;
+use elias_fano::opened::Image;
 use elias_fano_words::check::bits_at;
 
 #[derive(Clone, Copy)]
@@ -66,12 +67,12 @@ pub fn ended(k: usize) -> Walk
 }
 
 // The walk from the value with the number k on, whose one stands at `place`.
-pub fn begin_at(image: &[u64], p: Parts, k: usize, place: usize) -> Walk
-    requires { OneAt image.now p k place }
-    ensures { WalkOver image.now p result × (result.number ≡ k) }
+pub fn begin_at(image: &Image, k: usize, place: usize) -> Walk
+    requires { OneAt image.now.words.now image.now.parts k place }
+    ensures { WalkOver image.now.words.now image.now.parts result × (result.number ≡ k) }
 {
-    let start = p.low_at;
-    let ones = walk_from(&image[6..start], place);
+    let start = image.parts.low_at;
+    let ones = walk_from(&image.words[6..start], place);
     Walk {
         number: k,
         base: place / WORD_LEN * WORD_LEN,
@@ -81,29 +82,28 @@ pub fn begin_at(image: &[u64], p: Parts, k: usize, place: usize) -> Walk
 }
 
 // The walk from the value with the number k on.
-pub fn begin(image: &[u64], p: Parts, k: usize) -> Walk
-    requires { Open image.now p }
-    ensures { WalkOver image.now p result × (result.number ≡ k) }
+pub fn begin(image: &Image, k: usize) -> Walk
+    ensures { WalkOver image.now.words.now image.now.parts result × (result.number ≡ k) }
 {
-    if k >= p.num_pushed as usize {
+    if k >= image.parts.num_pushed as usize {
         return ended(k);
     }
-    begin_at(image, p, k, one_at(image, p, k))
+    begin_at(image, k, one_at(image, k))
 }
 
 // The high word with the one of the next value, which there is.
-fn ahead_of(image: &[u64], p: Parts, w: Walk) -> Ahead
-    requires { Open image.now p × WalkOver image.now p w × (w.number < p.num_pushed) }
-    ensures { OnesAhead image.now p w.number result.base result.rest × (result.rest ≡ 0 → ⊥) }
+fn ahead_of(image: &Image, w: Walk) -> Ahead
+    requires { WalkOver image.now.words.now image.now.parts w × (w.number < image.now.parts.num_pushed) }
+    ensures { OnesAhead image.now.words.now image.now.parts w.number result.base result.rest × (result.rest ≡ 0 → ⊥) }
 {
     let base = w.base;
     let rest = w.rest;
     if rest != 0 {
         return Ahead { base, rest };
     }
-    let start = p.low_at;
-    let high = &image[6..start];
-    let at = skip_zeros(high, base / WORD_LEN + 1, words_for(p.high_len));
+    let start = image.parts.low_at;
+    let high = &image.words[6..start];
+    let at = skip_zeros(high, base / WORD_LEN + 1, words_for(image.parts.high_len));
     Ahead {
         base: at * WORD_LEN,
         rest: high[at],
@@ -111,11 +111,11 @@ fn ahead_of(image: &[u64], p: Parts, w: Walk) -> Ahead
 }
 
 // The one of the next value, which there is, and the ones after it.
-fn take_one(image: &[u64], p: Parts, w: Walk) -> One
-    requires { Open image.now p × WalkOver image.now p w × (w.number < p.num_pushed) }
-    ensures { OneTaken image.now p w result }
+fn take_one(image: &Image, w: Walk) -> One
+    requires { WalkOver image.now.words.now image.now.parts w × (w.number < image.now.parts.num_pushed) }
+    ensures { OneTaken image.now.words.now image.now.parts w result }
 {
-    let ahead = ahead_of(image, p, w);
+    let ahead = ahead_of(image, w);
     let base = ahead.base;
     let rest = ahead.rest;
     match lsb(rest) {
@@ -133,49 +133,49 @@ fn take_one(image: &[u64], p: Parts, w: Walk) -> One
 }
 
 // The low bits from those of the next value on, with all of its own.
-fn lows_of(image: &[u64], p: Parts, w: Walk) -> u64
-    requires { Open image.now p × WalkOver image.now p w × (w.number < p.num_pushed) }
-    ensures { LowsAhead (low_part image.now p) (w.number * p.low_len) result × (result / 2 ^ p.low_len ≡ 0 → ⊥) }
+fn lows_of(image: &Image, w: Walk) -> u64
+    requires { WalkOver image.now.words.now image.now.parts w × (w.number < image.now.parts.num_pushed) }
+    ensures { LowsAhead (low_part image.now.words.now image.now.parts) (w.number * image.now.parts.low_len) result × (result / 2 ^ image.now.parts.low_len ≡ 0 → ⊥) }
 {
-    if w.lows >> p.low_len != 0 {
+    if w.lows >> image.parts.low_len != 0 {
         return w.lows;
     }
-    let start = p.low_at;
-    let end = p.ones_at;
-    bits_at(&image[start..end], w.number * p.low_len) | 0x8000_0000_0000_0000
+    let start = image.parts.low_at;
+    let end = image.parts.ones_at;
+    bits_at(&image.words[start..end], w.number * image.parts.low_len) | 0x8000_0000_0000_0000
 }
 
 // The next value, which there is.
-pub fn take(image: &[u64], p: Parts, w: Walk) -> Taken
-    requires { Open image.now p × WalkOver image.now p w × (w.number < p.num_pushed) }
-    ensures { WalkOver image.now p result.walk × (result.walk.number ≡ suc w.number) × (result.value ≡ get_or (times image.now) w.number 0) }
+pub fn take(image: &Image, w: Walk) -> Taken
+    requires { WalkOver image.now.words.now image.now.parts w × (w.number < image.now.parts.num_pushed) }
+    ensures { WalkOver image.now.words.now image.now.parts result.walk × (result.walk.number ≡ suc w.number) × (result.value ≡ get_or (times image.now.words.now) w.number 0) }
 {
-    let one = take_one(image, p, w);
-    let lows = lows_of(image, p, w);
-    let low = lows & ((1 << p.low_len) - 1);
+    let one = take_one(image, w);
+    let lows = lows_of(image, w);
+    let low = lows & ((1 << image.parts.low_len) - 1);
     Taken {
-        value: (((one.place - w.number) as u64) << p.low_len) + low,
+        value: (((one.place - w.number) as u64) << image.parts.low_len) + low,
         walk: Walk {
             number: w.number + 1,
             base: one.base,
             rest: one.rest,
-            lows: lows >> p.low_len,
+            lows: lows >> image.parts.low_len,
         },
     }
 }
 
 // The next value, or none, and none again.
-pub fn next(image: &[u64], p: Parts, w: Walk) -> ValueStep
-    requires { Open image.now p × WalkOver image.now p w }
-    ensures { WalkOver image.now p result.walk × (of_value_step result ≡ value_step_of (times image.now) w.number) }
+pub fn next(image: &Image, w: Walk) -> ValueStep
+    requires { WalkOver image.now.words.now image.now.parts w }
+    ensures { WalkOver image.now.words.now image.now.parts result.walk × (of_value_step result ≡ value_step_of (times image.now.words.now) w.number) }
 {
-    if w.number >= p.num_pushed as usize {
+    if w.number >= image.parts.num_pushed as usize {
         return ValueStep {
             value: None,
             walk: w,
         };
     }
-    let t = take(image, p, w);
+    let t = take(image, w);
     let rest = t.walk;
     ValueStep {
         value: Some(t.value),

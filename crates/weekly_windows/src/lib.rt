@@ -8,7 +8,6 @@
 ghost use Rattle.std.specs.Prelude.{◌≡◌, true, take as take_list, drop};
 ghost use Rattle.errors.specs.Answer.{of_result};
 ghost use Rattle.elias_fano.specs.Accept.{times};
-ghost use Rattle.elias_fano.specs.Opening.{Open};
 ghost use Rattle.elias_fano_walk.specs.Walking.{WalkOver};
 ghost use Rattle.weekly_windows.specs.Ordering.{Ordered, PartStarts};
 ghost use Rattle.weekly_windows.specs.Windows.{are_windows, count_in, count_answer, count_of};
@@ -16,29 +15,28 @@ ghost use Rattle.weekly_windows.specs.Windows.{are_windows, count_in, count_answ
 mod order;
 
 use crate::order::{are_windows, is_inside, order as put_in_order, part_starts};
-use elias_fano::image::{Parts, open};
+use elias_fano::opened::Image;
 use elias_fano_walk::search::begin_from;
 use elias_fano_walk::walk::{Walk, take};
 use errors::Refusal;
 
 // How many values from the walk's on and below e are in the windows.
 fn count_on(
-    image: &[u64],
-    p: Parts,
+    image: &Image,
     from: Walk,
     e: u64,
     cuts: &[u64; 65],
     n: usize,
     first: &[usize; 148],
 ) -> usize
-    requires { Open image.now p × WalkOver image.now p from × Ordered cuts.now n × PartStarts cuts.now n first.now }
-    ensures { result ≡ count_in (take_list n cuts.now) 0 e (drop from.number (times image.now)) }
+    requires { WalkOver image.now.words.now image.now.parts from × Ordered cuts.now n × PartStarts cuts.now n first.now }
+    ensures { result ≡ count_in (take_list n cuts.now) 0 e (drop from.number (times image.now.words.now)) }
 {
-    let end = p.num_pushed as usize;
+    let end = image.parts.num_pushed as usize;
     let mut w = from;
     let mut count: usize = 0;
     while w.number < end {
-        let t = take(image, p, w);
+        let t = take(image, w);
         let x = t.value;
         if e <= x {
             return count;
@@ -51,27 +49,25 @@ fn count_on(
 }
 
 // The same with the windows as they were handed in.
-fn count_within(image: &[u64], p: Parts, from: Walk, e: u64, windows: &[u64]) -> usize
-    requires { Open image.now p × WalkOver image.now p from × (are_windows windows.now ≡ true) }
-    ensures { result ≡ count_in windows.now 0 e (drop from.number (times image.now)) }
+fn count_within(image: &Image, from: Walk, e: u64, windows: &[u64]) -> usize
+    requires { WalkOver image.now.words.now image.now.parts from × (are_windows windows.now ≡ true) }
+    ensures { result ≡ count_in windows.now 0 e (drop from.number (times image.now.words.now)) }
 {
     let mut cuts = [0u64; 65];
     let n = put_in_order(windows, &mut cuts);
     let mut first = [0usize; 148];
     part_starts(&cuts, n, &mut first);
-    count_on(image, p, from, e, &cuts, n, &first)
+    count_on(image, from, e, &cuts, n, &first)
 }
 
 // How many values from s on and below e are in the windows, of an opened image; 17 where the words are no windows.
 pub fn count_opened(
-    image: &[u64],
-    p: Parts,
+    image: &Image,
     windows: &[u64],
     s: u64,
     e: u64,
 ) -> Result<usize, Refusal>
-    requires { Open image.now p }
-    ensures { of_result result ≡ count_answer (times image.now) windows.now s e }
+    ensures { of_result result ≡ count_answer (times image.now.words.now) windows.now s e }
 {
     if !are_windows(windows) {
         return Err(Refusal::InvalidWindows);
@@ -79,14 +75,14 @@ pub fn count_opened(
     if e <= s {
         return Ok(0);
     }
-    let from = begin_from(image, p, s);
-    Ok(count_within(image, p, from, e, windows))
+    let from = begin_from(image, s);
+    Ok(count_within(image, from, e, windows))
 }
 
 // How many values from s on and below e are in the windows.
 pub fn count(image: &[u64], windows: &[u64], s: u64, e: u64) -> Result<usize, Refusal>
     ensures { of_result result ≡ count_of image.now windows.now s e }
 {
-    let p = open(image)?;
-    count_opened(image, p, windows, s, e)
+    let image = Image::open(image)?;
+    count_opened(&image, windows, s, e)
 }

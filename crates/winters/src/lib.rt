@@ -7,12 +7,11 @@
 ghost use Rattle.std.specs.Prelude.{true, ◌≡◌, [], ◌∷◌, ◌++◌, ◌+◌, ◌-◌, ◌*◌, ◌≤◌, min, length, take as take_list, drop};
 ghost use Rattle.errors.specs.Answer.{leaves, of_result};
 ghost use Rattle.elias_fano.specs.Accept.{accepted, times};
-ghost use Rattle.elias_fano.specs.Opening.{Open};
 ghost use Rattle.elias_fano_walk.specs.Walking.{WalkOver};
 ghost use Rattle.winters.specs.Adding.{NoneBelow, with_others};
 ghost use Rattle.winters.specs.Winters.{in_span, summary_of, words_of, span_words, compare_answer, compare_of};
 
-use elias_fano::image::{Parts, open};
+use elias_fano::opened::Image;
 use elias_fano_walk::search::begin_from;
 use elias_fano_walk::walk::{Walk, take};
 use errors::Refusal;
@@ -66,17 +65,17 @@ fn with_others(first: u64, n: usize, last: u64, gap: u64) -> Summary
 }
 
 // The summary of the value `first` and of those from the walk's on and below e. The gap begins with e, which is above every gap.
-fn summarize_after(image: &[u64], p: Parts, first: u64, from: Walk, e: u64) -> Summary
-    requires { Open image.now p × WalkOver image.now p from × NoneBelow first (drop from.number (times image.now)) }
-    ensures { result ≡ summary_of (first ∷ in_span 0 e (drop from.number (times image.now))) }
+fn summarize_after(image: &Image, first: u64, from: Walk, e: u64) -> Summary
+    requires { WalkOver image.now.words.now image.now.parts from × NoneBelow first (drop from.number (times image.now.words.now)) }
+    ensures { result ≡ summary_of (first ∷ in_span 0 e (drop from.number (times image.now.words.now))) }
 {
-    let end = p.num_pushed as usize;
+    let end = image.parts.num_pushed as usize;
     let start = from.number;
     let mut w = from;
     let mut last = first;
     let mut gap = e;
     while w.number < end {
-        let t = take(image, p, w);
+        let t = take(image, w);
         let x = t.value;
         if e <= x {
             return with_others(first, w.number - start, last, gap);
@@ -90,29 +89,28 @@ fn summarize_after(image: &[u64], p: Parts, first: u64, from: Walk, e: u64) -> S
 }
 
 // The summary of the values from the walk's on and below e.
-fn summarize_on(image: &[u64], p: Parts, from: Walk, e: u64) -> Summary
-    requires { Open image.now p × WalkOver image.now p from }
-    ensures { result ≡ summary_of (in_span 0 e (drop from.number (times image.now))) }
+fn summarize_on(image: &Image, from: Walk, e: u64) -> Summary
+    requires { WalkOver image.now.words.now image.now.parts from }
+    ensures { result ≡ summary_of (in_span 0 e (drop from.number (times image.now.words.now))) }
 {
-    if p.num_pushed as usize <= from.number {
+    if image.parts.num_pushed as usize <= from.number {
         return nothing();
     }
-    let t = take(image, p, from);
+    let t = take(image, from);
     let first = t.value;
     if e <= first {
         return nothing();
     }
     let rest = t.walk;
-    summarize_after(image, p, first, rest, e)
+    summarize_after(image, first, rest, e)
 }
 
 // The summary of the values from s on and below e.
-fn summarize(image: &[u64], p: Parts, s: u64, e: u64) -> Summary
-    requires { Open image.now p }
-    ensures { result ≡ summary_of (in_span s e (times image.now)) }
+fn summarize(image: &Image, s: u64, e: u64) -> Summary
+    ensures { result ≡ summary_of (in_span s e (times image.now.words.now)) }
 {
-    let from = begin_from(image, p, s);
-    summarize_on(image, p, from, e)
+    let from = begin_from(image, s);
+    summarize_on(image, from, e)
 }
 
 // The summary's four words, from the word `at` on.
@@ -127,13 +125,13 @@ fn put(out: &mut [u64], at: usize, s: Summary)
 }
 
 // Four words for each of the first `count` spans; the later words stay.
-fn compare_all(image: &[u64], p: Parts, seconds: &[u64], count: usize, out: &mut [u64])
-    requires { Open image.now p × (count ≡ length seconds.now - 1) × (4 * count ≤ length out.old) }
-    ensures { out.new ≡ span_words (times image.now) seconds.now ++ drop (4 * count) out.old }
+fn compare_all(image: &Image, seconds: &[u64], count: usize, out: &mut [u64])
+    requires { (count ≡ length seconds.now - 1) × (4 * count ≤ length out.old) }
+    ensures { out.new ≡ span_words (times image.now.words.now) seconds.now ++ drop (4 * count) out.old }
 {
     let mut i: usize = 0;
     while i < count {
-        let s = summarize(image, p, seconds[i], seconds[i + 1]);
+        let s = summarize(image, seconds[i], seconds[i + 1]);
         put(&mut *out, 4 * i, s);
         i += 1;
     }
@@ -148,19 +146,17 @@ fn num_spans(seconds: usize) -> usize
 
 // The spans of an accepted image; the tables are made here.
 fn compare_accepted(
-    image: &[u64],
-    p: Parts,
+    image: &Image,
     seconds: &[u64],
     out: &mut [u64],
 ) -> Result<usize, Refusal>
-    requires { Open image.now p }
-    ensures { leaves (of_result result) out.new ≡ compare_answer (times image.now) seconds.now out.old }
+    ensures { leaves (of_result result) out.new ≡ compare_answer (times image.now.words.now) seconds.now out.old }
 {
     let count = num_spans(seconds.len());
     if out.len() / 4 < count {
         return Err(Refusal::ShortBuffer);
     }
-    compare_all(image, p, seconds, count, &mut *out);
+    compare_all(image, seconds, count, &mut *out);
     Ok(count)
 }
 
@@ -168,6 +164,6 @@ fn compare_accepted(
 pub fn compare(image: &[u64], seconds: &[u64], out: &mut [u64]) -> Result<usize, Refusal>
     ensures { leaves (of_result result) out.new ≡ compare_of image.now seconds.now out.old }
 {
-    let p = open(image)?;
-    compare_accepted(image, p, seconds, &mut *out)
+    let image = Image::open(image)?;
+    compare_accepted(&image, seconds, &mut *out)
 }

@@ -7,7 +7,7 @@ use Rattle.weekly_windows.proofs.Counting as counting
 use Rattle.weekly_windows.proofs.count_on.Given as goal
 
 abbrev pub invariant-loop-w : goal.invariant-loop-w
-invariant-loop-w l = (l.end ≡ l.p.num_pushed) × counting.CountsOn l.image l.p (take l.n l.cuts) l.e l.initial.w.number l.w l.count
+invariant-loop-w l = (l.end ≡ l.image.parts.num_pushed) × counting.CountsOn l.image.words.now l.image.parts (take l.n l.cuts) l.e l.initial.w.number l.w l.count
 
 abbrev pub decreases-loop-w : goal.decreases-loop-w
 decreases-loop-w l = l.end - l.w.number

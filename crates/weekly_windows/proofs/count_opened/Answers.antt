@@ -14,12 +14,12 @@ returns-then-e-s c = counting.answer_is _ _ _ _ (sym c.are_windows.ensures ∙ n
 
 pub count_within-requires : goal.count_within-requires
 count_within-requires c =
-    let o = c.requires in
+    let o = (record { ok = c.args.image.now.ok; parts = c.args.image.now.right }) in
     (o, c.begin_from-from.ensures.0, sym c.are_windows.ensures ∙ not-false _ c.if-not-are_windows.false-raw)
 
 pub returns : goal.returns
 returns c =
     let w = c.args.windows.now in
-    let T = times c.args.image.now in
+    let T = times c.args.image.now.words.now in
     counting.answer_is T w c.args.s c.args.e (sym c.are_windows.ensures ∙ not-false _ c.if-not-are_windows.false-raw) _
-    (c.count_within.ensures ∙ sym (counting.count_span w _ c.args.s c.args.e _ T (images.is_fit _ c.requires.ok).rises c.begin_from-from.ensures.1))
+    (c.count_within.ensures ∙ sym (counting.count_span w _ c.args.s c.args.e _ T (images.is_fit _ c.args.image.now.ok).rises c.begin_from-from.ensures.1))

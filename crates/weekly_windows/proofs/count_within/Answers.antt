@@ -12,5 +12,5 @@ pub returns : goal.returns
 returns c =
     let o = c.before.before.before.before.before.before in
     let s = o.before.before.before.before in
-    let T = drop s.args.from.number (times s.args.image.now) in
+    let T = drop s.args.from.number (times s.args.image.now.words.now) in
     c.count_on.ensures ∙ ap (λ (l : List ℕ). count_in l 0 s.args.e T) o.order-n.ensures.1 ∙ counting.count-joined s.args.windows.now s.args.e T

@@ -6,7 +6,7 @@ use Rattle.winters.proofs.Writing as writing
 use Rattle.winters.proofs.compare_all.Given as goal
 
 abbrev pub invariant-loop-i : goal.invariant-loop-i
-invariant-loop-i l = writing.Compared (times l.image) l.seconds l.initial.out l.out l.i
+invariant-loop-i l = writing.Compared (times l.image.words.now) l.seconds l.initial.out l.out l.i
 
 abbrev pub decreases-loop-i : goal.decreases-loop-i
 decreases-loop-i l = l.count - l.i

@@ -8,10 +8,10 @@ use Rattle.winters.proofs.summarize.Goals as goal
 
 pub summarize_on-requires : goal.summarize_on-requires
 summarize_on-requires c =
-    let o = c.requires in
+    let o = (record { ok = c.args.image.now.ok; parts = c.args.image.now.right }) in
     (o, c.begin_from-from.ensures.0)
 
 pub returns : goal.returns
 returns c =
     c.summarize_on.ensures
-    ∙ sym (ap summary_of (spans.span_begins _ c.args.s c.args.e _ (times c.args.image.now) (images.is_fit _ c.requires.ok).rises c.begin_from-from.ensures.1))
+    ∙ sym (ap summary_of (spans.span_begins _ c.args.s c.args.e _ (times c.args.image.now.words.now) (images.is_fit _ c.args.image.now.ok).rises c.begin_from-from.ensures.1))

@@ -6,19 +6,19 @@ use Rattle.winters.proofs.Summing as summing
 use Rattle.winters.proofs.summarize_on.Goals as goal
 
 pub returns-then-p-from : goal.returns-then-p-from
-returns-then-p-from c = c.nothing.ensures ∙ sym (ap summary_of (summing.none_after c.args.image.now c.requires.0.ok c.args.p c.requires.0.parts c.args.e c.args.from.number c.if-p-from.true))
+returns-then-p-from c = c.nothing.ensures ∙ sym (ap summary_of (summing.none_after c.args.image.now.words.now c.args.image.now.ok c.args.image.now.parts c.args.image.now.right c.args.e c.args.from.number c.if-p-from.true))
 
 pub returns-then-e-first : goal.returns-then-e-first
 returns-then-e-first c =
-    c.nothing-then-e-first.ensures ∙ sym (ap summary_of (summing.none_within c.args.image.now c.requires.0.ok c.args.p c.requires.0.parts c.args.e c.args.from.number _ c.take-t.ensures.2 (omega (arith, c.if-e-first.true))))
+    c.nothing-then-e-first.ensures ∙ sym (ap summary_of (summing.none_within c.args.image.now.words.now c.args.image.now.ok c.args.image.now.parts c.args.image.now.right c.args.e c.args.from.number _ c.take-t.ensures.2 (omega (arith, c.if-e-first.true))))
 
 pub summarize_after-requires : goal.summarize_after-requires
 summarize_after-requires c =
     let r = c.take-t in
     let t = r.ensures in
-    (c.requires.0, t.0, summing.none_below c.args.image.now c.requires.0.ok c.args.p c.requires.0.parts c.args.from.number _ t.2 r.result.walk.number (omega (arith, t.1)))
+    (t.0, summing.none_below c.args.image.now.words.now c.args.image.now.ok c.args.image.now.parts c.args.image.now.right c.args.from.number _ t.2 r.result.walk.number (omega (arith, t.1)))
 
 pub returns : goal.returns
 returns c =
     let t = c.take-t.ensures in
-    c.summarize_after.ensures ∙ sym (ap summary_of (summing.one_more c.args.image.now c.requires.0.ok c.args.p c.requires.0.parts c.args.e c.args.from.number _ c.if-p-from.false t.2 (omega (arith, c.if-e-first.false)) _ t.1))
+    c.summarize_after.ensures ∙ sym (ap summary_of (summing.one_more c.args.image.now.words.now c.args.image.now.ok c.args.image.now.parts c.args.image.now.right c.args.e c.args.from.number _ c.if-p-from.false t.2 (omega (arith, c.if-e-first.false)) _ t.1))

@@ -1,16 +1,13 @@
 -- `elias_fano_queries::neighbours::successor` meets its contract.
 -- Assumes nothing.
-use Rattle.errors.specs.Answer.{of_optional}
 use mathlib.Core.Path.{ap, ◌∙◌}
+use Rattle.errors.specs.Answer.{of_optional}
 use Rattle.errors.proofs.Passing as passing
 use Rattle.elias_fano.proofs.Answers as answers
 use Rattle.elias_fano_queries.proofs.neighbours.successor.Goals as goal
 
-pub successor_opened-requires : goal.successor_opened-requires
-successor_opened-requires c = answers.opened _ _ c.in_ok-p.ensures
-
 pub returns : goal.returns
-returns c = answers.query_opened _ _ _ (answers.opened _ _ c.in_ok-p.ensures).ok c.successor_opened.ensures
+returns c = answers.query_image _ c.in_ok-image.image c.in_ok-image.ensures _ _ c.successor_opened.ensures
 
-pub returns-in_err-p : goal.returns-in_err-p
-returns-in_err-p c = ap of_optional (passing.refused_so _ _ c.from_residual.ensures.1) ∙ answers.query_refused _ _ _ c.in_err-p.ensures
+pub returns-in_err-image : goal.returns-in_err-image
+returns-in_err-image c = ap of_optional (passing.refused_so _ _ c.from_residual.ensures.1) ∙ answers.query_refused _ _ _ c.in_err-image.ensures

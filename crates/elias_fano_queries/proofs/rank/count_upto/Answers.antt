@@ -8,31 +8,31 @@ use Rattle.elias_fano_queries.proofs.Opened as opened
 use Rattle.elias_fano_queries.proofs.rank.count_upto.Goals as goal
 
 pub overflow_sub-zeros : goal.overflow_sub-zeros
-overflow_sub-zeros c = let f = found c.args.image.now c.requires.0.opened.ok in standing.ones-fit c.args.image.now c.args.p c.requires.0.opened.parts f.head (is_fit c.args.image.now c.requires.0.opened.ok).small f.bits
+overflow_sub-zeros c = let f = found c.args.image.now.words.now c.args.image.now.ok in standing.ones-fit c.args.image.now.words.now c.args.image.now.parts c.args.image.now.right f.head (is_fit c.args.image.now.words.now c.args.image.now.ok).small f.bits
 
 pub slice_bounds-select_within-count : goal.slice_bounds-select_within-count
-slice_bounds-select_within-count c = standing.six_low c.args.image.now c.args.p c.requires.0.opened.parts (found c.args.image.now c.requires.0.opened.ok).head
+slice_bounds-select_within-count c = standing.six_low c.args.image.now.words.now c.args.image.now.parts c.args.image.now.right (found c.args.image.now.words.now c.args.image.now.ok).head
 
 pub slice_bounds-select_within-start : goal.slice_bounds-select_within-start
-slice_bounds-select_within-start c = standing.six_low c.args.image.now c.args.p c.requires.0.opened.parts (found c.args.image.now c.requires.0.opened.ok).head
+slice_bounds-select_within-start c = standing.six_low c.args.image.now.words.now c.args.image.now.parts c.args.image.now.right (found c.args.image.now.words.now c.args.image.now.ok).head
 
 pub slice_bounds-select_within-end : goal.slice_bounds-select_within-end
-slice_bounds-select_within-end c = standing.low_end c.args.image.now c.args.p c.requires.0.opened.parts (found c.args.image.now c.requires.0.opened.ok).head
+slice_bounds-select_within-end c = standing.low_end c.args.image.now.words.now c.args.image.now.parts c.args.image.now.right (found c.args.image.now.words.now c.args.image.now.ok).head
 
 pub offset_bounds-image-zeros_at : goal.offset_bounds-image-zeros_at
-offset_bounds-image-zeros_at c = let e = standing.zeros_end c.args.image.now c.args.p c.requires.0.opened.parts (found c.args.image.now c.requires.0.opened.ok).head in record { fits = omega (arith, c.well_formed) }
+offset_bounds-image-zeros_at c = let e = standing.zeros_end c.args.image.now.words.now c.args.image.now.parts c.args.image.now.right (found c.args.image.now.words.now c.args.image.now.ok).head in record { fits = omega (arith, c.well_formed) }
 
 pub slice_bounds-select_within-count-2 : goal.slice_bounds-select_within-count-2
-slice_bounds-select_within-count-2 c = standing.zeros_end c.args.image.now c.args.p c.requires.0.opened.parts (found c.args.image.now c.requires.0.opened.ok).head
+slice_bounds-select_within-count-2 c = standing.zeros_end c.args.image.now.words.now c.args.image.now.parts c.args.image.now.right (found c.args.image.now.words.now c.args.image.now.ok).head
 
 pub slice_bounds-select_within-start-2 : goal.slice_bounds-select_within-start-2
-slice_bounds-select_within-start-2 c = standing.zeros_end c.args.image.now c.args.p c.requires.0.opened.parts (found c.args.image.now c.requires.0.opened.ok).head
+slice_bounds-select_within-start-2 c = standing.zeros_end c.args.image.now.words.now c.args.image.now.parts c.args.image.now.right (found c.args.image.now.words.now c.args.image.now.ok).head
 
 pub select_within-place-requires : goal.select_within-place-requires
-select_within-place-requires c = (opened.indexed_zeros c.args.image.now c.requires.0.opened.ok c.args.p c.requires.0.opened.parts c.requires.0.ranked, opened.zero_in c.args.image.now c.requires.0.opened.ok c.args.p c.requires.0.opened.parts c.args.h c.requires.1)
+select_within-place-requires c = (opened.indexed_zeros c.args.image.now.words.now c.args.image.now.ok c.args.image.now.parts c.args.image.now.right c.requires.0, opened.zero_in c.args.image.now.words.now c.args.image.now.ok c.args.image.now.parts c.args.image.now.right c.args.h c.requires.1)
 
 pub overflow_sub-result : goal.overflow_sub-result
-overflow_sub-result c = opened.after-zeros c.args.image.now c.requires.0.opened.ok c.args.p c.requires.0.opened.parts c.args.h _ c.select_within-place.ensures
+overflow_sub-result c = opened.after-zeros c.args.image.now.words.now c.args.image.now.ok c.args.image.now.parts c.args.image.now.right c.args.h _ c.select_within-place.ensures
 
 pub returns : goal.returns
-returns c = opened.zero_rank c.args.image.now c.requires.0.opened.ok c.args.p c.requires.0.opened.parts c.args.h _ c.select_within-place.ensures
+returns c = opened.zero_rank c.args.image.now.words.now c.args.image.now.ok c.args.image.now.parts c.args.image.now.right c.args.h _ c.select_within-place.ensures

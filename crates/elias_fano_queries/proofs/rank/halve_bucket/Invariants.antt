@@ -6,7 +6,7 @@ use Rattle.elias_fano.specs.Ask.{below}
 use Rattle.elias_fano_queries.proofs.rank.halve_bucket.Given as goal
 
 abbrev pub invariant-loop-from : goal.invariant-loop-from
-invariant-loop-from l = (l.first ≤ l.from) × (l.from ≤ below l.val (times l.image)) × (below l.val (times l.image) ≤ l.to) × (l.to ≤ l.end)
+invariant-loop-from l = (l.first ≤ l.from) × (l.from ≤ below l.val (times l.image.words.now)) × (below l.val (times l.image.words.now) ≤ l.to) × (l.to ≤ l.end)
 
 abbrev pub decreases-loop-from : goal.decreases-loop-from
 decreases-loop-from l = l.to - l.from

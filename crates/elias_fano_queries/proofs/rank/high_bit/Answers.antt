@@ -7,16 +7,16 @@ use Rattle.elias_fano_queries.proofs.Opened as opened
 use Rattle.elias_fano_queries.proofs.rank.high_bit.Goals as goal
 
 pub slice_bounds-high-count : goal.slice_bounds-high-count
-slice_bounds-high-count c = standing.six_low c.args.image.now c.args.p c.requires.0.parts (found c.args.image.now c.requires.0.ok).head
+slice_bounds-high-count c = standing.six_low c.args.image.now.words.now c.args.image.now.parts c.args.image.now.right (found c.args.image.now.words.now c.args.image.now.ok).head
 
 pub slice_bounds-high-start : goal.slice_bounds-high-start
-slice_bounds-high-start c = standing.six_low c.args.image.now c.args.p c.requires.0.parts (found c.args.image.now c.requires.0.ok).head
+slice_bounds-high-start c = standing.six_low c.args.image.now.words.now c.args.image.now.parts c.args.image.now.right (found c.args.image.now.words.now c.args.image.now.ok).head
 
 pub slice_bounds-high-end : goal.slice_bounds-high-end
-slice_bounds-high-end c = standing.low_end c.args.image.now c.args.p c.requires.0.parts (found c.args.image.now c.requires.0.ok).head
+slice_bounds-high-end c = standing.low_end c.args.image.now.words.now c.args.image.now.parts c.args.image.now.right (found c.args.image.now.words.now c.args.image.now.ok).head
 
 pub bounds-high-at : goal.bounds-high-at
-bounds-high-at c = let a = opened.part_length c.args.image.now c.requires.0.ok c.args.p c.requires.0.parts in let b = opened.part_room c.args.image.now c.requires.0.ok c.args.p c.requires.0.parts in omega (arith, c.requires.1)
+bounds-high-at c = let a = opened.part_length c.args.image.now.words.now c.args.image.now.ok c.args.image.now.parts c.args.image.now.right in let b = opened.part_room c.args.image.now.words.now c.args.image.now.ok c.args.image.now.parts c.args.image.now.right in omega (arith, c.requires)
 
 pub returns : goal.returns
 returns c = opened.high_bit _ c.args.place

@@ -10,19 +10,19 @@ pub returns-then-place-le-LINEAR_WALK_THRESHOLD : goal.returns-then-place-le-LIN
 returns-then-place-le-LINEAR_WALK_THRESHOLD c = opened.not_crowded _ c.args.place c.if-place-le-LINEAR_WALK_THRESHOLD.true
 
 pub slice_bounds-window-count : goal.slice_bounds-window-count
-slice_bounds-window-count c = standing.six_low c.args.image.now c.args.p c.requires.0.parts (found c.args.image.now c.requires.0.ok).head
+slice_bounds-window-count c = standing.six_low c.args.image.now.words.now c.args.image.now.parts c.args.image.now.right (found c.args.image.now.words.now c.args.image.now.ok).head
 
 pub slice_bounds-window-start : goal.slice_bounds-window-start
-slice_bounds-window-start c = standing.six_low c.args.image.now c.args.p c.requires.0.parts (found c.args.image.now c.requires.0.ok).head
+slice_bounds-window-start c = standing.six_low c.args.image.now.words.now c.args.image.now.parts c.args.image.now.right (found c.args.image.now.words.now c.args.image.now.ok).head
 
 pub slice_bounds-window-end : goal.slice_bounds-window-end
-slice_bounds-window-end c = standing.low_end c.args.image.now c.args.p c.requires.0.parts (found c.args.image.now c.requires.0.ok).head
+slice_bounds-window-end c = standing.low_end c.args.image.now.words.now c.args.image.now.parts c.args.image.now.right (found c.args.image.now.words.now c.args.image.now.ok).head
 
 pub overflow_sub-start : goal.overflow_sub-start
-overflow_sub-start c = standing.six_low c.args.image.now c.args.p c.requires.0.parts (found c.args.image.now c.requires.0.ok).head
+overflow_sub-start c = standing.six_low c.args.image.now.words.now c.args.image.now.parts c.args.image.now.right (found c.args.image.now.words.now c.args.image.now.ok).head
 
 pub window-before-requires : goal.window-before-requires
-window-before-requires c = let a = opened.part_length c.args.image.now c.requires.0.ok c.args.p c.requires.0.parts in let b = opened.part_room c.args.image.now c.requires.0.ok c.args.p c.requires.0.parts in (omega (arith, c.requires.1), omega arith)
+window-before-requires c = let a = opened.part_length c.args.image.now.words.now c.args.image.now.ok c.args.image.now.parts c.args.image.now.right in let b = opened.part_room c.args.image.now.words.now c.args.image.now.ok c.args.image.now.parts c.args.image.now.right in (omega (arith, c.requires), omega arith)
 
 pub returns : goal.returns
-returns c = opened.crowded_is c.args.image.now c.requires.0.ok c.args.p c.requires.0.parts c.args.place _ _ c.if-place-le-LINEAR_WALK_THRESHOLD.false c.window-before.ensures c.low_bits.ensures
+returns c = opened.crowded_is c.args.image.now.words.now c.args.image.now.ok c.args.image.now.parts c.args.image.now.right c.args.place _ _ c.if-place-le-LINEAR_WALK_THRESHOLD.false c.window-before.ensures c.low_bits.ensures

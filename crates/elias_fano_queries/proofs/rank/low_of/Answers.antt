@@ -11,19 +11,19 @@ use Rattle.elias_fano.proofs.Standing as standing
 use Rattle.elias_fano_queries.proofs.rank.low_of.Goals as goal
 
 pub offset_bounds-image-start : goal.offset_bounds-image-start
-offset_bounds-image-start c = let e = standing.low_end c.args.image.now c.args.p c.requires.0.parts (found c.args.image.now c.requires.0.ok).head in record { fits = omega (arith, c.well_formed) }
+offset_bounds-image-start c = let e = standing.low_end c.args.image.now.words.now c.args.image.now.parts c.args.image.now.right (found c.args.image.now.words.now c.args.image.now.ok).head in record { fits = omega (arith, c.well_formed) }
 
 pub slice_bounds-low_at-count : goal.slice_bounds-low_at-count
-slice_bounds-low_at-count c = standing.low_ones c.args.image.now c.args.p c.requires.0.parts (found c.args.image.now c.requires.0.ok).head
+slice_bounds-low_at-count c = standing.low_ones c.args.image.now.words.now c.args.image.now.parts c.args.image.now.right (found c.args.image.now.words.now c.args.image.now.ok).head
 
 pub slice_bounds-low_at-start : goal.slice_bounds-low_at-start
-slice_bounds-low_at-start c = standing.low_ones c.args.image.now c.args.p c.requires.0.parts (found c.args.image.now c.requires.0.ok).head
+slice_bounds-low_at-start c = standing.low_ones c.args.image.now.words.now c.args.image.now.parts c.args.image.now.right (found c.args.image.now.words.now c.args.image.now.ok).head
 
 pub slice_bounds-low_at-end : goal.slice_bounds-low_at-end
-slice_bounds-low_at-end c = standing.ones_end c.args.image.now c.args.p c.requires.0.parts (found c.args.image.now c.requires.0.ok).head
+slice_bounds-low_at-end c = standing.ones_end c.args.image.now.words.now c.args.image.now.parts c.args.image.now.right (found c.args.image.now.words.now c.args.image.now.ok).head
 
 pub low_at-requires : goal.low_at-requires
-low_at-requires c = (selecting.low_small c.args.image.now c.requires.0.ok c.args.p c.requires.0.parts, selecting.low_held c.args.image.now c.requires.0.ok c.args.p c.requires.0.parts c.args.k c.requires.1)
+low_at-requires c = (selecting.low_small c.args.image.now.words.now c.args.image.now.ok c.args.image.now.parts c.args.image.now.right, selecting.low_held c.args.image.now.words.now c.args.image.now.ok c.args.image.now.parts c.args.image.now.right c.args.k c.requires)
 
 pub returns : goal.returns
-returns c = selecting.lower c.args.image.now c.requires.0.ok c.args.p c.requires.0.parts c.args.k c.requires.1 _ c.low_at.ensures ∙ ap (λ (l : ℕ). get_or (times c.args.image.now) c.args.k 0 % 2 ^ l) (sym (selecting.low_len_is c.args.image.now c.requires.0.ok c.args.p c.requires.0.parts))
+returns c = selecting.lower c.args.image.now.words.now c.args.image.now.ok c.args.image.now.parts c.args.image.now.right c.args.k c.requires _ c.low_at.ensures ∙ ap (λ (l : ℕ). get_or (times c.args.image.now.words.now) c.args.k 0 % 2 ^ l) (sym (selecting.low_len_is c.args.image.now.words.now c.args.image.now.ok c.args.image.now.parts c.args.image.now.right))

@@ -11,41 +11,41 @@ use Rattle.elias_fano_queries.proofs.Ranking as ranking
 use Rattle.elias_fano_queries.proofs.rank.walk_back.Goals as goal
 
 pub overflow_shr-h : goal.overflow_shr-h
-overflow_shr-h c = selecting.low_small c.args.image.now c.requires.0.ok c.args.p c.requires.0.parts
+overflow_shr-h c = selecting.low_small c.args.image.now.words.now c.args.image.now.ok c.args.image.now.parts c.args.image.now.right
 
 pub low_bits-low-requires : goal.low_bits-low-requires
-low_bits-low-requires c = let a = selecting.low_small c.args.image.now c.requires.0.ok c.args.p c.requires.0.parts in omega arith
+low_bits-low-requires c = let a = selecting.low_small c.args.image.now.words.now c.args.image.now.ok c.args.image.now.parts c.args.image.now.right in omega arith
 
 pub loop-i-init : goal.loop-i-init
-loop-i-init c = (ranking.begins c.args.image.now c.args.p c.requires.0 c.args.val c.args.end c.requires.2, le_refl c.args.end)
+loop-i-init c = (ranking.begins c.args.image.now.words.now c.args.image.now.parts (record { ok = c.args.image.now.ok; parts = c.args.image.now.right }) c.args.val c.args.end c.requires.1, le_refl c.args.end)
 
 -- the place that is looked at is one of the high bits
-place : (c : goal.In-loop-i) → c.args.val / 2 ^ c.args.p.low_len + c.args.end < c.args.p.high_len
+place : (c : goal.In-loop-i) → c.args.val / 2 ^ c.args.image.now.parts.low_len + c.args.end < c.args.image.now.parts.high_len
 place c =
-    ranking.place_lt c.args.image.now c.args.p c.requires.0 c.args.val c.args.end c.requires.2 c.requires.1 c.args.end (le_refl c.args.end)
+    ranking.place_lt c.args.image.now.words.now c.args.image.now.parts (record { ok = c.args.image.now.ok; parts = c.args.image.now.right }) c.args.val c.args.end c.requires.1 c.requires.0 c.args.end (le_refl c.args.end)
 
 pub overflow_add-h : goal.overflow_add-h
 overflow_add-h c =
     let a = place c in
-    omega (arith, c.loop-i.invariant.1, opened.high_small c.args.image.now c.requires.0.ok c.args.p c.requires.0.parts)
+    omega (arith, c.loop-i.invariant.1, opened.high_small c.args.image.now.words.now c.args.image.now.ok c.args.image.now.parts c.args.image.now.right)
 
 pub high_bit-requires : goal.high_bit-requires
-high_bit-requires c = let a = place c in (c.requires.0, omega (arith, c.loop-i.invariant.1))
+high_bit-requires c = let a = place c in (omega (arith, c.loop-i.invariant.1))
 
 pub low_of-requires : goal.low_of-requires
-low_of-requires c = (c.requires.0, omega (arith, c.loop-i-test.true, c.loop-i.invariant.1, ranking.end_le c.args.image.now c.args.p c.requires.0 c.args.val c.args.end c.requires.2))
+low_of-requires c = (omega (arith, c.loop-i-test.true, c.loop-i.invariant.1, ranking.end_le c.args.image.now.words.now c.args.image.now.parts (record { ok = c.args.image.now.ok; parts = c.args.image.now.right }) c.args.val c.args.end c.requires.1))
 
 pub loop-i-smaller : goal.loop-i-smaller
 loop-i-smaller c = omega (arith, c.loop-i-test.true)
 
 pub loop-i-preserved : goal.loop-i-preserved
-loop-i-preserved c = (ranking.go_back c.args.image.now c.args.p c.requires.0 c.args.val c.args.end c.requires.2 c.loop-i.i c.loop-i-test.true c.loop-i.invariant.0 c.loop-i.invariant.1 _ _ c.low_of.ensures c.low_bits-low.ensures c.requires.1 (ranking.not_zero _ (bit_at_le _ _) (λ z. c.if-high_bit-eq0.false (c.high_bit.ensures ∙ z))) c.if-low_of-low.false, omega (arith, c.loop-i.invariant.1))
+loop-i-preserved c = (ranking.go_back c.args.image.now.words.now c.args.image.now.parts (record { ok = c.args.image.now.ok; parts = c.args.image.now.right }) c.args.val c.args.end c.requires.1 c.loop-i.i c.loop-i-test.true c.loop-i.invariant.0 c.loop-i.invariant.1 _ _ c.low_of.ensures c.low_bits-low.ensures c.requires.0 (ranking.not_zero _ (bit_at_le _ _) (λ z. c.if-high_bit-eq0.false (c.high_bit.ensures ∙ z))) c.if-low_of-low.false, omega (arith, c.loop-i.invariant.1))
 
 pub returns-after-loop-i : goal.returns-after-loop-i
 returns-after-loop-i c = omega (arith, c.loop-i-test.false, c.loop-i.invariant.0)
 
 pub returns-then-high_bit-eq0 : goal.returns-then-high_bit-eq0
-returns-then-high_bit-eq0 c = ranking.stop_zero c.args.image.now c.args.p c.requires.0 c.args.val c.args.end c.requires.2 c.loop-i.i c.loop-i-test.true c.loop-i.invariant.0 c.loop-i.invariant.1 (sym c.high_bit.ensures ∙ c.if-high_bit-eq0.true)
+returns-then-high_bit-eq0 c = ranking.stop_zero c.args.image.now.words.now c.args.image.now.parts (record { ok = c.args.image.now.ok; parts = c.args.image.now.right }) c.args.val c.args.end c.requires.1 c.loop-i.i c.loop-i-test.true c.loop-i.invariant.0 c.loop-i.invariant.1 (sym c.high_bit.ensures ∙ c.if-high_bit-eq0.true)
 
 pub returns-then-low_of-low : goal.returns-then-low_of-low
-returns-then-low_of-low c = ranking.stop_low c.args.image.now c.args.p c.requires.0 c.args.val c.args.end c.requires.2 c.loop-i.i c.loop-i-test.true c.loop-i.invariant.0 c.loop-i.invariant.1 _ _ c.low_of.ensures c.low_bits-low.ensures c.if-low_of-low.true
+returns-then-low_of-low c = ranking.stop_low c.args.image.now.words.now c.args.image.now.parts (record { ok = c.args.image.now.ok; parts = c.args.image.now.right }) c.args.val c.args.end c.requires.1 c.loop-i.i c.loop-i-test.true c.loop-i.invariant.0 c.loop-i.invariant.1 _ _ c.low_of.ensures c.low_bits-low.ensures c.if-low_of-low.true

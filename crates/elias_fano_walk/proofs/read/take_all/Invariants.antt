@@ -5,7 +5,7 @@ use Rattle.elias_fano_walk.proofs.Reading as reading
 use Rattle.elias_fano_walk.proofs.read.take_all.Given as goal
 
 abbrev pub invariant-loop-i : goal.invariant-loop-i
-invariant-loop-i l = reading.Written l.image l.p l.initial.w.number l.count l.initial.out l.out l.w l.i
+invariant-loop-i l = reading.Written l.image.words.now l.image.parts l.initial.w.number l.count l.initial.out l.out l.w l.i
 
 abbrev pub decreases-loop-i : goal.decreases-loop-i
 decreases-loop-i l = l.count - l.i

@@ -11,10 +11,10 @@ pub returns-then-end-eq0 : goal.returns-then-end-eq0
 returns-then-end-eq0 c =
     let e = ap (λ (w : Walk). w.number) c.ended.ensures in
     let z = c.if-end-eq0.true in
-    ((λ h. absurd (omega arith)), searched.skip_ends c.args.image.now c.requires.ok c.args.p c.requires.parts c.args.val _ (omega arith) (omega arith) (λ j h. absurd (omega arith)))
+    ((λ h. absurd (omega arith)), searched.skip_ends c.args.image.now.words.now c.args.image.now.ok c.args.image.now.parts c.args.image.now.right c.args.val _ (omega arith) (omega arith) (λ j h. absurd (omega arith)))
 
 pub skip_below-requires : goal.skip_below-requires
 skip_below-requires c =
     let b = c.begin_at-from.ensures in
     let t = c.scan_section-section.ensures.start in
-    (record { ok = c.requires.ok; parts = c.requires.parts }, b.0, omega (arith, b.1, t.upto), λ j h. t.less j (omega (arith, b.1)) zero-le)
+    (b.0, omega (arith, b.1, t.upto), λ j h. t.less j (omega (arith, b.1)) zero-le)

@@ -5,7 +5,7 @@ use Rattle.elias_fano_walk.proofs.Searched as searched
 use Rattle.elias_fano_walk.proofs.search.scan_range.Given as goal
 
 abbrev pub invariant-loop-i : goal.invariant-loop-i
-invariant-loop-i l = searched.Scanning l.image l.p l.val l.initial.i l.end l.w l.i
+invariant-loop-i l = searched.Scanning l.image.words.now l.image.parts l.val l.initial.i l.end l.w l.i
 
 abbrev pub decreases-loop-i : goal.decreases-loop-i
 decreases-loop-i l = l.end - l.i

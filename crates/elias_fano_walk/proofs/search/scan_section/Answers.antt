@@ -16,7 +16,7 @@ pub returns-then-value_of-val : goal.returns-then-value_of-val
 returns-then-value_of-val c =
     let m = c.if-end-first-le-SUBBLOCK_LEN.false in
     let below = subst (λ (x : ℕ). x < c.args.val) c.value_of.ensures c.if-value_of-val.true in
-    halved.section_right c.args.image.now c.requires.0.ok c.args.p c.requires.0.parts c.args.val c.args.a c.args.b c.requires.1 _ _ _ _ c.section_by_high-section.ensures (omega arith) (omega arith) below c.halve_range-number.ensures c.one_at-place.ensures
+    halved.section_right c.args.image.now.words.now c.args.image.now.ok c.args.image.now.parts c.args.image.now.right c.args.val c.args.a c.args.b c.requires _ _ _ _ c.section_by_high-section.ensures (omega arith) (omega arith) below c.halve_range-number.ensures c.one_at-place.ensures
 
 pub returns : goal.returns
 returns c = c.section_by_high-section.ensures

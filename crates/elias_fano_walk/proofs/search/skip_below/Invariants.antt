@@ -6,7 +6,7 @@ use Rattle.elias_fano_walk.proofs.Searched as searched
 use Rattle.elias_fano_walk.proofs.search.skip_below.Given as goal
 
 abbrev pub invariant-loop-w : goal.invariant-loop-w
-invariant-loop-w l = (l.end ≡ l.p.num_pushed) × searched.Skipping l.image l.p l.val l.w
+invariant-loop-w l = (l.end ≡ l.image.parts.num_pushed) × searched.Skipping l.image.words.now l.image.parts l.val l.w
 
 abbrev pub decreases-loop-w : goal.decreases-loop-w
 decreases-loop-w l = l.end - l.w.number

@@ -5,8 +5,8 @@ use native.Mathlib.Omega.{arith}
 use Rattle.elias_fano_walk.specs.declared.walk.Walk.{Walk}
 use Rattle.elias_fano_walk.proofs.walk.begin.Goals as goal
 
-pub returns-then-k-p : goal.returns-then-k-p
-returns-then-k-p c = let e = ap (λ (w : Walk). w.number) c.ended.ensures in ((λ h. absurd (omega (arith, c.if-k-p.true, e))), e)
+pub returns-then-k-image : goal.returns-then-k-image
+returns-then-k-image c = let e = ap (λ (w : Walk). w.number) c.ended.ensures in ((λ h. absurd (omega (arith, c.if-k-image.true, e))), e)
 
 pub begin_at-requires : goal.begin_at-requires
 begin_at-requires c = c.one_at.ensures

@@ -7,15 +7,15 @@ use Rattle.elias_fano_walk.proofs.walk.take_one.Goals as goal
 pub overflow_add-result : goal.overflow_add-result
 overflow_add-result c =
     let a = c.ahead_of-ahead in
-    record { fits = walked.place_fits c.args.image.now c.requires.0.ok c.args.p c.requires.0.parts c.args.w.number c.requires.2 a.result.base a.result.rest a.ensures.0 a.ensures.1 _ (sym c.lsb.ensures ∙ c.in-Some.is) }
+    record { fits = walked.place_fits c.args.image.now.words.now c.args.image.now.ok c.args.image.now.parts c.args.image.now.right c.args.w.number c.requires.1 a.result.base a.result.rest a.ensures.0 a.ensures.1 _ (sym c.lsb.ensures ∙ c.in-Some.is) }
 
 pub returns-in-Some : goal.returns-in-Some
 returns-in-Some c =
     let a = c.ahead_of-ahead in
-    let t = walked.one_taken c.args.image.now c.requires.0.ok c.args.p c.requires.0.parts c.args.w.number c.requires.2 a.result.base a.result.rest a.ensures.0 a.ensures.1 _ (sym c.lsb.ensures ∙ c.in-Some.is) in
+    let t = walked.one_taken c.args.image.now.words.now c.args.image.now.ok c.args.image.now.parts c.args.image.now.right c.args.w.number c.requires.1 a.result.base a.result.rest a.ensures.0 a.ensures.1 _ (sym c.lsb.ensures ∙ c.in-Some.is) in
     record { at = t.0; after = t.1 }
 
 pub returns-in-None : goal.returns-in-None
 returns-in-None c =
     let a = c.ahead_of-ahead in
-    absurd (walked.some_lowest c.args.image.now c.requires.0.ok c.args.p c.requires.0.parts c.args.w.number c.requires.2 a.result.base a.result.rest a.ensures.0 a.ensures.1 (sym c.lsb.ensures ∙ c.in-None.is))
+    absurd (walked.some_lowest c.args.image.now.words.now c.args.image.now.ok c.args.image.now.parts c.args.image.now.right c.args.w.number c.requires.1 a.result.base a.result.rest a.ensures.0 a.ensures.1 (sym c.lsb.ensures ∙ c.in-None.is))
