@@ -6,11 +6,11 @@ ghost use Rattle.std.specs.Prelude.{true, ◌≡◌, ◌∷◌, ◌++◌, suc, �
 ghost use Rattle.errors.specs.Answer.{leaves, of_result};
 ghost use Rattle.elias_fano.specs.Accept.{accepted, parts_of, no_parts, times};
 ghost use Rattle.elias_fano.specs.Ask.{read_out, filled};
-ghost use Rattle.elias_fano.specs.Opening.{Open};
 ghost use Rattle.elias_fano_walk.specs.Walking.{value_step_of};
 ghost use Rattle.prefix_summed_elias_fano.specs.Items.{items_of, ItemsOver, StartsItems, of_item_step, read_items_of};
 
-use elias_fano::image::{Parts, no_parts, open, value_of};
+use elias_fano::image::{Parts, no_parts, value_of};
+use elias_fano::opened::Image;
 use elias_fano_walk::read::how_many;
 use elias_fano_walk::walk::{Walk, begin, ended, take};
 use errors::Refusal;
@@ -43,29 +43,28 @@ pub struct ItemStep {
 }
 
 // The sum of the items before the place k: the value before that with the number k.
-fn sum_before(image: &[u64], p: Parts, k: usize) -> u64
-    requires { Open image.now p }
-    ensures { result ≡ get_or (0 ∷ times image.now) k 0 }
+fn sum_before(image: &Image, k: usize) -> u64
+    ensures { result ≡ get_or (0 ∷ times image.now.words.now) k 0 }
 {
     if k == 0 {
         return 0;
     }
-    if k > p.num_pushed as usize {
+    if k > image.parts.num_pushed as usize {
         return 0;
     }
-    value_of(image, p, k - 1)
+    value_of(image, k - 1)
 }
 
 // The place k of an accepted image, as `begin` of the walk over its values.
-fn begin_items(image: &[u64], p: Parts, k: usize) -> ItemPlace
-    requires { Open image.now p }
-    ensures { ItemsOver image.now result.parts result.walk × (result.walk.values.number ≡ k) × (result.parts ≡ parts_of image.now) }
+fn begin_items(image: &Image, k: usize) -> ItemPlace
+    ensures { ItemsOver image.now.words.now result.parts result.walk × (result.walk.values.number ≡ k) × (result.parts ≡ parts_of image.now.words.now) }
 {
-    let before = sum_before(image, p, k);
-    let values = begin(image, p, k);
     ItemPlace {
-        parts: p,
-        walk: ItemWalk { before, values },
+        parts: image.parts,
+        walk: ItemWalk {
+            before: sum_before(image, k),
+            values: begin(image, k),
+        },
     }
 }
 
@@ -89,8 +88,8 @@ pub fn start_items(image: &[u64], k: usize) -> Result<ItemPlace, Refusal>
     if image.len() == 0 {
         return Ok(begin_none(k));
     }
-    let p = open(image)?;
-    Ok(begin_items(image, p, k))
+    let image = Image::open(image)?;
+    Ok(begin_items(&image, k))
 }
 
 // The next item, which there is.
@@ -98,14 +97,16 @@ pub fn take_item(image: &[u64], p: Parts, w: ItemWalk) -> ItemTaken
     requires { ItemsOver image.now p w × (w.values.number < p.num_pushed) }
     ensures { ItemsOver image.now p result.rest × (result.rest.values.number ≡ suc w.values.number) × (result.item ≡ get_or (items_of image.now) w.values.number 0) }
 {
-    let from = w.values;
-    let t = take(image, p, from);
-    let values = t.walk;
+    let opened = Image {
+        words: image,
+        parts: p,
+    };
+    let t = take(&opened, w.values);
     ItemTaken {
         item: t.value - w.before,
         rest: ItemWalk {
             before: t.value,
-            values,
+            values: t.walk,
         },
     }
 }
@@ -122,10 +123,9 @@ pub fn next_item(image: &[u64], p: Parts, w: ItemWalk) -> ItemStep
         };
     }
     let t = take_item(image, p, w);
-    let rest = t.rest;
     ItemStep {
         item: Some(t.item),
-        rest,
+        rest: t.rest,
     }
 }
 
@@ -135,13 +135,10 @@ fn take_items(image: &[u64], p: Parts, from: ItemWalk, count: usize, out: &mut [
     ensures { out.new ≡ take_list count (drop from.values.number (items_of image.now)) ++ drop count out.old }
 {
     let mut w = from;
-    let mut i = 0;
-    while i < count {
+    for i in 0..count {
         let t = take_item(image, p, w);
         out[i] = t.item;
-        let rest = t.rest;
-        w = rest;
-        i += 1;
+        w = t.rest;
     }
 }
 

@@ -3,4 +3,4 @@ use Rattle.prefix_summed_elias_fano.proofs.Taking as taking
 use Rattle.prefix_summed_elias_fano.proofs.walk.begin_items.Goals as goal
 
 pub returns : goal.returns
-returns c = (taking.over-accepted c.args.image.now c.requires.ok c.args.p c.requires.parts c.args.k _ _ c.begin-values.ensures.0 c.begin-values.ensures.1 c.sum_before-before.ensures, c.begin-values.ensures.1, c.requires.parts)
+returns c = (taking.over-accepted c.args.image.now.words.now c.args.image.now.ok c.args.image.now.parts c.args.image.now.right c.args.k _ _ c.begin.ensures.0 c.begin.ensures.1 c.sum_before.ensures, c.begin.ensures.1, c.args.image.now.right)

@@ -12,9 +12,6 @@ take_item-t-requires c = let l = c.loop-i in (l.invariant.over, taking.one_left 
 pub bounds-out-i : goal.bounds-out-i
 bounds-out-i c = let e = c.loop-i.invariant.long in let r = c.requires.2 in omega (arith, c.loop-i-test.true)
 
-pub loop-i-smaller : goal.loop-i-smaller
-loop-i-smaller c = omega arith
-
 pub loop-i-preserved : goal.loop-i-preserved
 loop-i-preserved c = let l = c.loop-i in let t = c.take_item-t.ensures in taking.one_written c.args.image.now c.args.p _ _ c.args.count c.requires.1 c.requires.2 l.out l.w l.i l.invariant c.loop-i-test.true _ _ t.0 t.1 t.2
 

@@ -5,6 +5,3 @@ use Rattle.prefix_summed_elias_fano.proofs.walk.take_items.Given as goal
 
 abbrev pub invariant-loop-i : goal.invariant-loop-i
 invariant-loop-i l = taking.ItemsWritten l.image l.p l.initial.w.values.number l.count l.initial.out l.out l.w l.i
-
-abbrev pub decreases-loop-i : goal.decreases-loop-i
-decreases-loop-i l = l.count - l.i
