@@ -1,9 +1,8 @@
 // The record: a whole list pushed, and a walk. What else the bench asks of a record it asks through the library for C.
-ghost use Rattle.elias_fano.specs.Opening.{Open};
 ghost use Rattle.elias_fano_walk.specs.Walking.{WalkOver};
 
 use elias_fano::builder::{new, push};
-use elias_fano::image::{Parts, open};
+use elias_fano::opened::Image;
 use elias_fano_walk::walk::{Walk, begin, next};
 
 // Pushes the times into a fresh record: how many it took.
@@ -28,13 +27,13 @@ pub extern "C" fn bench_record_push(
 }
 
 // So many steps of a walk: the sum of what they give, a none as 0.
-fn walk_on(image: &[u64], p: Parts, from: Walk, steps: usize) -> u64
-    requires { Open image.now p × WalkOver image.now p from }
+fn walk_on(image: &Image, from: Walk, steps: usize) -> u64
+    requires { WalkOver image.now.words.now image.now.parts from }
 {
     let mut w = from;
     let mut sum: u64 = 0;
     for _ in 0..steps {
-        let s = next(image, p, w);
+        let s = next(image, w);
         sum = sum.wrapping_add(s.value.unwrap_or(0));
         w = s.walk;
     }
@@ -44,8 +43,8 @@ fn walk_on(image: &[u64], p: Parts, from: Walk, steps: usize) -> u64
 // A walk over an image from its first time on. The image is opened once.
 #[unsafe(no_mangle)]
 pub extern "C" fn bench_record_walk(image: &[u64], steps: usize) -> u64 {
-    let Ok(p) = open(image) else {
+    let Ok(image) = Image::open(image) else {
         return 0;
     };
-    walk_on(image, p, begin(image, p, 0), steps)
+    walk_on(&image, begin(&image, 0), steps)
 }

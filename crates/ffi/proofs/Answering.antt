@@ -10,12 +10,6 @@ use lib.ListN.{length, get_or, take, drop, set, length-append, length-drop}
 use lib.Seq.{length-take-le, take-suc, take_at, drop-append-add, drop-drop}
 use Rattle.errors.specs.Answer.{Answer, value, refused, leaves, Outcome}
 use Rattle.bit_words.proofs.Packed.{set-two}
-use Rattle.elias_fano.specs.Accept.{accepted, times}
-use Rattle.elias_fano.specs.Ask.{asked, query}
-use Rattle.elias_fano.proofs.Answers as answers
-use Rattle.sarray.specs.Ask.{sparse_ask, sparse_query}
-use Rattle.sarray.specs.declared.vector.SArray.{SArray}
-use Rattle.sarray.specs.Opened.{OpenVector}
 use Rattle.ffi.specs.declared.EfAnswer.{EfAnswer}
 use Rattle.ffi.specs.Answers.{ef_answer}
 use Rattle.ffi.specs.Many.{answer_words, both, answered, many_if}

@@ -2,8 +2,8 @@
 use Rattle.std.specs.Prelude.{◌≡◌, List, [], ◌∷◌, ◌++◌, Bool, cond, ℕ, ◌*◌, ◌/◌, min, length, take, drop}
 use Rattle.errors.specs.Answer.{Answer, value, refused, Outcome, leaves}
 use Rattle.elias_fano.specs.Accept.{accepted}
-use Rattle.elias_fano.specs.Ask.{Question, Select, Delta, Rank, Predecessor, Successor, Binsearch, query}
-use Rattle.sarray.specs.Ask.{SparseQuestion, Access, Rank1, Select1, Predecessor1, Successor1, is_vector, sparse_query}
+use Rattle.elias_fano.specs.Ask.{Question, query}
+use Rattle.sarray.specs.Ask.{SparseQuestion, is_vector, sparse_query}
 use Rattle.ffi.specs.declared.EfAnswer.{EfAnswer}
 use Rattle.ffi.specs.Answers.{ef_answer}
 

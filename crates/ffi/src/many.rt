@@ -1,14 +1,14 @@
 // Questions by the many: the image is opened once a call; each question then costs what it costs of an opened image.
 ghost use Rattle.std.specs.Prelude.{◌≡◌, true, ◌∷◌, ◌++◌, ◌+◌, ◌*◌, ◌<◌, ℕ, length, take as take_list, drop};
 ghost use Rattle.errors.specs.Answer.{Answer, value, leaves};
-ghost use Rattle.elias_fano.specs.Opening.{Open};
 ghost use Rattle.elias_fano.specs.Ask.{Select, Delta, Rank, Predecessor, Successor, Binsearch, asked};
 ghost use Rattle.ffi.specs.Answers.{ef_answer};
 ghost use Rattle.ffi.specs.Many.{Answering, many_if, many_of};
 
 use crate::EfAnswer;
 use crate::tell::Tell;
-use elias_fano::image::{open, select_opened};
+use elias_fano::image::select_opened;
+use elias_fano::opened::Image;
 use elias_fano_queries::delta::delta_opened;
 use elias_fano_queries::neighbours::{predecessor_opened, successor_opened};
 use elias_fano_queries::rank::rank_opened;
@@ -41,12 +41,11 @@ pub fn answer_each<F: Fn(u64) -> EfAnswer>(answer: F, args: &[u64], out: &mut [u
 pub extern "C" fn ef_selects(words: &[u64], ks: &[u64], out: &mut [u64]) -> EfAnswer
     ensures { (result ≡ ef_answer (many_of words.now Select ks.now out.old).answer) × (out.new ≡ (many_of words.now Select ks.now out.old).words) }
 {
-    match open(words) {
-        Ok(p) => answer_each(
+    match Image::open(words) {
+        Ok(image) => answer_each(
             |x: u64|
-                requires { Open words.now p }
-                ensures { result ≡ ef_answer (asked words.entry.now (Select x)) }
-            { select_opened(words, p, x as usize).tell() },
+                ensures { result ≡ ef_answer (asked image.entry.words.now (Select x)) }
+            { select_opened(&image, x as usize).tell() },
             ks,
             &mut *out,
         )
@@ -60,12 +59,11 @@ pub extern "C" fn ef_selects(words: &[u64], ks: &[u64], out: &mut [u64]) -> EfAn
 pub extern "C" fn ef_deltas(words: &[u64], ks: &[u64], out: &mut [u64]) -> EfAnswer
     ensures { (result ≡ ef_answer (many_of words.now Delta ks.now out.old).answer) × (out.new ≡ (many_of words.now Delta ks.now out.old).words) }
 {
-    match open(words) {
-        Ok(p) => answer_each(
+    match Image::open(words) {
+        Ok(image) => answer_each(
             |x: u64|
-                requires { Open words.now p }
-                ensures { result ≡ ef_answer (asked words.entry.now (Delta x)) }
-            { delta_opened(words, p, x as usize).tell() },
+                ensures { result ≡ ef_answer (asked image.entry.words.now (Delta x)) }
+            { delta_opened(&image, x as usize).tell() },
             ks,
             &mut *out,
         )
@@ -79,12 +77,11 @@ pub extern "C" fn ef_deltas(words: &[u64], ks: &[u64], out: &mut [u64]) -> EfAns
 pub extern "C" fn ef_ranks(words: &[u64], vals: &[u64], out: &mut [u64]) -> EfAnswer
     ensures { (result ≡ ef_answer (many_of words.now Rank vals.now out.old).answer) × (out.new ≡ (many_of words.now Rank vals.now out.old).words) }
 {
-    match open(words) {
-        Ok(p) => answer_each(
+    match Image::open(words) {
+        Ok(image) => answer_each(
             |x: u64|
-                requires { Open words.now p }
-                ensures { result ≡ ef_answer (asked words.entry.now (Rank x)) }
-            { rank_opened(words, p, x).tell() },
+                ensures { result ≡ ef_answer (asked image.entry.words.now (Rank x)) }
+            { rank_opened(&image, x).tell() },
             vals,
             &mut *out,
         )
@@ -98,12 +95,11 @@ pub extern "C" fn ef_ranks(words: &[u64], vals: &[u64], out: &mut [u64]) -> EfAn
 pub extern "C" fn ef_predecessors(words: &[u64], vals: &[u64], out: &mut [u64]) -> EfAnswer
     ensures { (result ≡ ef_answer (many_of words.now Predecessor vals.now out.old).answer) × (out.new ≡ (many_of words.now Predecessor vals.now out.old).words) }
 {
-    match open(words) {
-        Ok(p) => answer_each(
+    match Image::open(words) {
+        Ok(image) => answer_each(
             |x: u64|
-                requires { Open words.now p }
-                ensures { result ≡ ef_answer (asked words.entry.now (Predecessor x)) }
-            { predecessor_opened(words, p, x).tell() },
+                ensures { result ≡ ef_answer (asked image.entry.words.now (Predecessor x)) }
+            { predecessor_opened(&image, x).tell() },
             vals,
             &mut *out,
         )
@@ -117,12 +113,11 @@ pub extern "C" fn ef_predecessors(words: &[u64], vals: &[u64], out: &mut [u64]) 
 pub extern "C" fn ef_successors(words: &[u64], vals: &[u64], out: &mut [u64]) -> EfAnswer
     ensures { (result ≡ ef_answer (many_of words.now Successor vals.now out.old).answer) × (out.new ≡ (many_of words.now Successor vals.now out.old).words) }
 {
-    match open(words) {
-        Ok(p) => answer_each(
+    match Image::open(words) {
+        Ok(image) => answer_each(
             |x: u64|
-                requires { Open words.now p }
-                ensures { result ≡ ef_answer (asked words.entry.now (Successor x)) }
-            { successor_opened(words, p, x).tell() },
+                ensures { result ≡ ef_answer (asked image.entry.words.now (Successor x)) }
+            { successor_opened(&image, x).tell() },
             vals,
             &mut *out,
         )
@@ -136,12 +131,11 @@ pub extern "C" fn ef_successors(words: &[u64], vals: &[u64], out: &mut [u64]) ->
 pub extern "C" fn ef_binsearches(words: &[u64], vals: &[u64], out: &mut [u64]) -> EfAnswer
     ensures { (result ≡ ef_answer (many_of words.now Binsearch vals.now out.old).answer) × (out.new ≡ (many_of words.now Binsearch vals.now out.old).words) }
 {
-    match open(words) {
-        Ok(p) => answer_each(
+    match Image::open(words) {
+        Ok(image) => answer_each(
             |x: u64|
-                requires { Open words.now p }
-                ensures { result ≡ ef_answer (asked words.entry.now (Binsearch x)) }
-            { binsearch_opened(words, p, x).tell() },
+                ensures { result ≡ ef_answer (asked image.entry.words.now (Binsearch x)) }
+            { binsearch_opened(&image, x).tell() },
             vals,
             &mut *out,
         )

@@ -7,6 +7,7 @@ ghost use Rattle.sarray.specs.Opened.{OpenVector};
 
 use crate::vector::{SArray, open};
 use elias_fano::image::value_of;
+use elias_fano::opened::Image;
 use elias_fano_queries::neighbours::{predecessor_opened, successor_opened};
 use elias_fano_queries::rank::rank_within;
 use elias_fano_walk::search::binsearch_opened;
@@ -30,7 +31,11 @@ pub fn access_opened(image: &[u64], v: SArray, pos: usize) -> Result<Option<bool
     if v.num_ones == 0 {
         return Ok(Some(false));
     }
-    let found = binsearch_opened(image, v.parts, pos as u64)?;
+    let record = Image {
+        words: image,
+        parts: v.parts,
+    };
+    let found = binsearch_opened(&record, pos as u64)?;
     Ok(Some(found.is_some()))
 }
 
@@ -51,7 +56,11 @@ pub fn rank1_opened(image: &[u64], v: SArray, pos: usize) -> Result<Option<usize
     if pos == v.num_bits {
         return Ok(Some(v.num_ones));
     }
-    Ok(Some(rank_within(image, v.parts, pos as u64)))
+    let record = Image {
+        words: image,
+        parts: v.parts,
+    };
+    Ok(Some(rank_within(&record, pos as u64)))
 }
 
 // The place of the one with the number k, of an opened vector.
@@ -62,7 +71,11 @@ pub fn select1_opened(image: &[u64], v: SArray, k: usize) -> Result<Option<usize
     if k >= v.num_ones {
         return Ok(None);
     }
-    Ok(Some(value_of(image, v.parts, k) as usize))
+    let record = Image {
+        words: image,
+        parts: v.parts,
+    };
+    Ok(Some(value_of(&record, k) as usize))
 }
 
 // The last one at a place or before it, of an opened vector.
@@ -80,7 +93,11 @@ pub fn predecessor1_opened(image: &[u64], v: SArray, pos: usize) -> Result<Optio
     if v.num_ones == 0 {
         return Ok(None);
     }
-    place_of(predecessor_opened(image, v.parts, pos as u64))
+    let record = Image {
+        words: image,
+        parts: v.parts,
+    };
+    place_of(predecessor_opened(&record, pos as u64))
 }
 
 // The first one at a place or after it, of an opened vector.
@@ -97,7 +114,11 @@ pub fn successor1_opened(image: &[u64], v: SArray, pos: usize) -> Result<Option<
     if v.num_ones == 0 {
         return Ok(None);
     }
-    place_of(successor_opened(image, v.parts, pos as u64))
+    let record = Image {
+        words: image,
+        parts: v.parts,
+    };
+    place_of(successor_opened(&record, pos as u64))
 }
 
 // The bit at a place: none from the length on.

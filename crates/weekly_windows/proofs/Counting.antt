@@ -1,5 +1,4 @@
 -- How many times of a list are in the windows: by the times from one on and to the span's end, by windows in order, and the answers. T is the list of times, i an image. Assumes nothing.
-use Rattle.std.specs.Prelude.{Err, Result}
 use mathlib.Core.Path.{◌≡◌, refl, sym, ap, ap₂, ◌∙◌, subst}
 use mathlib.Core.List.{List, [], ◌∷◌}
 use mathlib.Core.Bool.{Bool, true, false, ◌&&◌, and-false}
@@ -12,8 +11,6 @@ use lib.Dec.{leb, ltb}
 use lib.ListN.{length, get_or, drop, length-drop, drop_of_length-le}
 use lib.Seq.{drop-nil, drop-cons, get_or-drop}
 use Rattle.errors.specs.Answer.{Answer, value, refused}
-use Rattle.errors.specs.Refusal.{number_of}
-use Rattle.errors.specs.declared.Refusal.{Refusal}
 use Rattle.broadword.specs.Fields.{flag}
 use Rattle.broadword.proofs.Truth.{flag_le}
 use Rattle.elias_fano_words.specs.Times.{rising}

@@ -42,8 +42,7 @@ fn count_on(
             return count;
         }
         count += is_inside(cuts, n, first, x);
-        let rest = t.walk;
-        w = rest;
+        w = t.walk;
     }
     count
 }
@@ -61,12 +60,7 @@ fn count_within(image: &Image, from: Walk, e: u64, windows: &[u64]) -> usize
 }
 
 // How many values from s on and below e are in the windows, of an opened image; 17 where the words are no windows.
-pub fn count_opened(
-    image: &Image,
-    windows: &[u64],
-    s: u64,
-    e: u64,
-) -> Result<usize, Refusal>
+pub fn count_opened(image: &Image, windows: &[u64], s: u64, e: u64) -> Result<usize, Refusal>
     ensures { of_result result ≡ count_answer (times image.now.words.now) windows.now s e }
 {
     if !are_windows(windows) {

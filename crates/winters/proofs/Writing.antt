@@ -1,6 +1,4 @@
 -- The words of spans: four are written at each step, and they are those of the definition in the end; and what a whole call leaves. T is a list of times, ss the seconds. Assumes nothing.
-use Rattle.elias_fano.specs.declared.image.Parts.{Parts}
-use Rattle.std.specs.Prelude.{Err, Result}
 use mathlib.Core.Path.{◌≡◌, refl, sym, ap, ap₂, ◌∙◌}
 use mathlib.Core.List.{List, [], ◌∷◌, ◌++◌, append_assoc, append-nil}
 use mathlib.Core.Bool.{Bool, true, cond}
@@ -11,8 +9,6 @@ use borrow.Author.Tests.{le-leb, lt-leb}
 use lib.ListN.{length, get_or, take, drop, set, length-append, length-drop, take-append-drop}
 use lib.Seq.{length-take-le, drop-cons, drop-drop, take_at, drop_at, sets-eq}
 use Rattle.errors.specs.Answer.{value, refused, Outcome, leaves}
-use Rattle.errors.specs.Refusal.{number_of}
-use Rattle.errors.specs.declared.Refusal.{Refusal}
 use Rattle.elias_fano.specs.Accept.{times, accepted, unopened, open_of}
 use Rattle.elias_fano.proofs.Answers as answers
 use Rattle.winters.specs.declared.Summary.{Summary}

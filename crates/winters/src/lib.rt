@@ -82,8 +82,7 @@ fn summarize_after(image: &Image, first: u64, from: Walk, e: u64) -> Summary
         }
         gap = lesser(gap, x - last);
         last = x;
-        let rest = t.walk;
-        w = rest;
+        w = t.walk;
     }
     with_others(first, w.number - start, last, gap)
 }
@@ -145,11 +144,7 @@ fn num_spans(seconds: usize) -> usize
 }
 
 // The spans of an accepted image; the tables are made here.
-fn compare_accepted(
-    image: &Image,
-    seconds: &[u64],
-    out: &mut [u64],
-) -> Result<usize, Refusal>
+fn compare_accepted(image: &Image, seconds: &[u64], out: &mut [u64]) -> Result<usize, Refusal>
     ensures { leaves (of_result result) out.new ≡ compare_answer (times image.now.words.now) seconds.now out.old }
 {
     let count = num_spans(seconds.len());

@@ -14,8 +14,7 @@ returns-then-e-s c = counting.answer_is _ _ _ _ (sym c.are_windows.ensures ∙ n
 
 pub count_within-requires : goal.count_within-requires
 count_within-requires c =
-    let o = (record { ok = c.args.image.now.ok; parts = c.args.image.now.right }) in
-    (o, c.begin_from-from.ensures.0, sym c.are_windows.ensures ∙ not-false _ c.if-not-are_windows.false-raw)
+    (c.begin_from-from.ensures.0, sym c.are_windows.ensures ∙ not-false _ c.if-not-are_windows.false-raw)
 
 pub returns : goal.returns
 returns c =

@@ -7,9 +7,7 @@ use Rattle.winters.proofs.Spans as spans
 use Rattle.winters.proofs.summarize.Goals as goal
 
 pub summarize_on-requires : goal.summarize_on-requires
-summarize_on-requires c =
-    let o = (record { ok = c.args.image.now.ok; parts = c.args.image.now.right }) in
-    (o, c.begin_from-from.ensures.0)
+summarize_on-requires c = c.begin_from-from.ensures.0
 
 pub returns : goal.returns
 returns c =

@@ -5,8 +5,8 @@ use Rattle.winters.specs.Winters.{summary_of}
 use Rattle.winters.proofs.Summing as summing
 use Rattle.winters.proofs.summarize_on.Goals as goal
 
-pub returns-then-p-from : goal.returns-then-p-from
-returns-then-p-from c = c.nothing.ensures ∙ sym (ap summary_of (summing.none_after c.args.image.now.words.now c.args.image.now.ok c.args.image.now.parts c.args.image.now.right c.args.e c.args.from.number c.if-p-from.true))
+pub returns-then-image-from : goal.returns-then-image-from
+returns-then-image-from c = c.nothing.ensures ∙ sym (ap summary_of (summing.none_after c.args.image.now.words.now c.args.image.now.ok c.args.image.now.parts c.args.image.now.right c.args.e c.args.from.number c.if-image-from.true))
 
 pub returns-then-e-first : goal.returns-then-e-first
 returns-then-e-first c =
@@ -21,4 +21,4 @@ summarize_after-requires c =
 pub returns : goal.returns
 returns c =
     let t = c.take-t.ensures in
-    c.summarize_after.ensures ∙ sym (ap summary_of (summing.one_more c.args.image.now.words.now c.args.image.now.ok c.args.image.now.parts c.args.image.now.right c.args.e c.args.from.number _ c.if-p-from.false t.2 (omega (arith, c.if-e-first.false)) _ t.1))
+    c.summarize_after.ensures ∙ sym (ap summary_of (summing.one_more c.args.image.now.words.now c.args.image.now.ok c.args.image.now.parts c.args.image.now.right c.args.e c.args.from.number _ c.if-image-from.false t.2 (omega (arith, c.if-e-first.false)) _ t.1))

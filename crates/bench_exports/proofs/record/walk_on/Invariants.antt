@@ -3,4 +3,4 @@ use Rattle.elias_fano_walk.specs.Walking.{WalkOver}
 use Rattle.bench_exports.proofs.record.walk_on.Given as goal
 
 abbrev pub invariant-loop : goal.invariant-loop
-invariant-loop l = WalkOver l.image l.p l.w
+invariant-loop l = WalkOver l.image.words.now l.image.parts l.w

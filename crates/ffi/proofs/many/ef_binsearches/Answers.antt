@@ -1,6 +1,7 @@
 -- `ffi::many::ef_binsearches` meets its contract.
 -- Assumes nothing.
-use mathlib.Core.Path.{refl, ap, ◌∙◌}
+use Rattle.std.specs.Prelude.{◌≡◌, List, ℕ, true}
+use mathlib.Core.Path.{refl, ap, ◌∙◌, subst}
 use Rattle.elias_fano.specs.Accept.{accepted}
 use Rattle.elias_fano.specs.Ask.{Binsearch, query}
 use Rattle.elias_fano.proofs.Answers as answers
@@ -8,13 +9,12 @@ use Rattle.ffi.specs.Answers.{ef_answer}
 use Rattle.ffi.proofs.Answering as answering
 use Rattle.ffi.proofs.many.ef_binsearches.Goals as goal
 
-pub answer_each-requires : goal.answer_each-requires
-answer_each-requires c = let h = answers.opened _ _ c.in-Ok.ensures in record { at = λ x. h }
-
 pub returns-in-Ok : goal.returns-in-Ok
 returns-in-Ok c =
-    let ok = (answers.opened _ _ c.in-Ok.ensures).ok in
-    answering.opened_told (accepted c.args.words.now) (λ x. query c.args.words.now (Binsearch x)) c.args.vals.now c.args.out.now _ _ _ ok (c.answer_each.ensures _ (λ x r p. p ∙ ap ef_answer (answers.query_opened _ _ _ ok refl))) c.tell.ensures
+    let i = c.in-Ok.image in
+    let ok : accepted c.args.words.now ≡ true = subst (λ (w : List ℕ). accepted w ≡ true) c.in-Ok.ensures.0 i.ok in
+    answering.opened_told (accepted c.args.words.now) (λ x. query c.args.words.now (Binsearch x)) c.args.vals.now c.args.out.now _ _ _ ok
+    (c.answer_each.ensures _ (λ x r p. p ∙ ap ef_answer (answers.query_image _ i c.in-Ok.ensures _ _ refl))) c.tell.ensures
 
 pub returns-in-Err : goal.returns-in-Err
 returns-in-Err c = answering.refused_told (accepted c.args.words.now) (λ x. query c.args.words.now (Binsearch x)) c.args.vals.now c.args.out.now _ _ (answers.not_open _ _ c.in-Err.ensures) c.tell-in-Err.ensures

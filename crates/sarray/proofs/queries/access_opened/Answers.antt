@@ -12,8 +12,8 @@ returns-then-pos-v c = answering.access_past c.args.image.now c.args.v c.require
 pub returns-then-v-eq0 : goal.returns-then-v-eq0
 returns-then-v-eq0 c = answering.access_zeros c.args.image.now c.args.v c.requires c.args.pos c.if-pos-v.false c.if-v-eq0.true
 
-pub binsearch_opened-requires : goal.binsearch_opened-requires
-binsearch_opened-requires c = answering.is_open c.args.image.now c.args.v c.requires c.if-v-eq0.false
+pub invariant_of-record : goal.invariant_of-record
+invariant_of-record c = let o = answering.is_open c.args.image.now c.args.v c.requires c.if-v-eq0.false in record { ok = o.ok; right = o.parts }
 
 pub returns : goal.returns
 returns c =

@@ -14,8 +14,8 @@ returns-then-v-pos c = answering.predecessor_past c.args.image.now c.args.v c.re
 pub returns-then-v-eq0 : goal.returns-then-v-eq0
 returns-then-v-eq0 c = answering.predecessor_zeros c.args.image.now c.args.v c.requires c.if-not-v.false c.args.pos c.if-v-eq0.true
 
-pub predecessor_opened-requires : goal.predecessor_opened-requires
-predecessor_opened-requires c = answering.is_open c.args.image.now c.args.v c.requires c.if-v-eq0.false
+pub invariant_of-record : goal.invariant_of-record
+invariant_of-record c = let o = answering.is_open c.args.image.now c.args.v c.requires c.if-v-eq0.false in record { ok = o.ok; right = o.parts }
 
 pub returns : goal.returns
 returns c = c.place_of.ensures ∙ c.predecessor_opened.ensures ∙ answering.predecessor_is c.args.image.now c.args.v c.requires c.if-not-v.false c.args.pos (omega (arith, c.if-v-pos.false)) c.if-v-eq0.false

@@ -18,8 +18,11 @@ returns-then-v-eq0 c = answering.rank_zeros c.args.image.now c.args.v c.requires
 pub returns-then-pos-v-2 : goal.returns-then-pos-v-2
 returns-then-pos-v-2 c = answering.rank_end c.args.image.now c.args.v c.requires c.if-not-v.false c.args.pos c.if-pos-v.false c.if-v-eq0.false c.if-pos-v-2.true
 
+pub invariant_of-record : goal.invariant_of-record
+invariant_of-record c = let o = answering.is_open c.args.image.now c.args.v c.requires c.if-v-eq0.false in record { ok = o.ok; right = o.parts }
+
 pub rank_within-requires : goal.rank_within-requires
-rank_within-requires c = (record { opened = answering.is_open c.args.image.now c.args.v c.requires c.if-v-eq0.false; ranked = sym (answering.choice_is c.args.image.now c.args.v c.requires c.if-v-eq0.false) ∙ not-false _ c.if-not-v.false }, omega (arith, answering.bits_are c.args.image.now c.args.v c.requires c.if-v-eq0.false, c.if-pos-v.false, c.if-pos-v-2.false))
+rank_within-requires c = (sym (answering.choice_is c.args.image.now c.args.v c.requires c.if-v-eq0.false) ∙ not-false _ c.if-not-v.false, omega (arith, answering.bits_are c.args.image.now c.args.v c.requires c.if-v-eq0.false, c.if-pos-v.false, c.if-pos-v-2.false))
 
 pub returns : goal.returns
 returns c = answering.rank_is c.args.image.now c.args.v c.requires c.if-not-v.false c.args.pos c.if-pos-v.false _ c.rank_within.ensures

@@ -13,8 +13,8 @@ returns-then-pos-v c = answering.successor_past c.args.image.now c.args.v c.requ
 pub returns-then-v-eq0 : goal.returns-then-v-eq0
 returns-then-v-eq0 c = answering.successor_zeros c.args.image.now c.args.v c.requires c.if-not-v.false c.args.pos c.if-pos-v.false c.if-v-eq0.true
 
-pub successor_opened-requires : goal.successor_opened-requires
-successor_opened-requires c = (answering.is_open c.args.image.now c.args.v c.requires c.if-v-eq0.false)
+pub invariant_of-record : goal.invariant_of-record
+invariant_of-record c = let o = answering.is_open c.args.image.now c.args.v c.requires c.if-v-eq0.false in record { ok = o.ok; right = o.parts }
 
 pub returns : goal.returns
 returns c = c.place_of.ensures ∙ c.successor_opened.ensures ∙ answering.successor_is c.args.image.now c.args.v c.requires c.if-not-v.false c.args.pos c.if-pos-v.false c.if-v-eq0.false
