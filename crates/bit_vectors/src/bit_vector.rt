@@ -7,7 +7,7 @@ ghost use Rattle.broadword.specs.Fields.{flag};
 ghost use Rattle.bit_vectors.specs.Queries.{access_of, get_bits_of, get_word64_of, rank1_of, num_ones_of, select_bit_of, predecessor1_of, set_bit_of, push_bits_of, from_bit_of};
 
 use bit_words::{
-    WORD_LEN, append, bit_word, fill, find_from, is_invalid, last_upto, low_bits, rank_words,
+    WORD_LEN, append, bit_word, checked, fill, find_from, last_upto, low_bits, rank_words,
     repeated, window, with_bit, words_for,
 };
 use errors::Refusal;
@@ -16,9 +16,7 @@ use errors::Refusal;
 pub fn access(words: &[u64], len: usize, pos: usize) -> Result<Option<bool>, Refusal>
     ensures { of_bit result ≡ access_of words.now len pos }
 {
-    if is_invalid(words, len) {
-        return Err(Refusal::InvalidBits);
-    }
+    checked(words, len)?;
     if len <= pos {
         return Ok(None);
     }
@@ -31,9 +29,7 @@ pub fn access(words: &[u64], len: usize, pos: usize) -> Result<Option<bool>, Ref
 pub fn get_bits(words: &[u64], len: usize, pos: usize, width: usize) -> Result<Option<u64>, Refusal>
     ensures { of_optional result ≡ get_bits_of words.now len pos width }
 {
-    if is_invalid(words, len) {
-        return Err(Refusal::InvalidBits);
-    }
+    checked(words, len)?;
     if WORD_LEN < width {
         return Ok(None);
     }
@@ -54,9 +50,7 @@ pub fn get_bits(words: &[u64], len: usize, pos: usize, width: usize) -> Result<O
 pub fn get_word64(words: &[u64], len: usize, pos: usize) -> Result<Option<u64>, Refusal>
     ensures { of_optional result ≡ get_word64_of words.now len pos }
 {
-    if is_invalid(words, len) {
-        return Err(Refusal::InvalidBits);
-    }
+    checked(words, len)?;
     if len <= pos {
         return Ok(None);
     }
@@ -68,9 +62,7 @@ pub fn get_word64(words: &[u64], len: usize, pos: usize) -> Result<Option<u64>, 
 pub fn rank1(words: &[u64], len: usize, pos: usize) -> Result<Option<usize>, Refusal>
     ensures { of_optional result ≡ rank1_of words.now len pos }
 {
-    if is_invalid(words, len) {
-        return Err(Refusal::InvalidBits);
-    }
+    checked(words, len)?;
     if len < pos {
         return Ok(None);
     }
@@ -81,9 +73,7 @@ pub fn rank1(words: &[u64], len: usize, pos: usize) -> Result<Option<usize>, Ref
 pub fn num_ones(words: &[u64], len: usize) -> Result<usize, Refusal>
     ensures { of_result result ≡ num_ones_of words.now len }
 {
-    if is_invalid(words, len) {
-        return Err(Refusal::InvalidBits);
-    }
+    checked(words, len)?;
     Ok(rank_words(words, len))
 }
 
@@ -96,9 +86,7 @@ fn select_over(
 ) -> Result<Option<usize>, Refusal>
     ensures { of_optional result ≡ select_bit_of words.now len over_one k }
 {
-    if is_invalid(words, len) {
-        return Err(Refusal::InvalidBits);
-    }
+    checked(words, len)?;
     if len == 0 {
         return Ok(None);
     }
@@ -129,14 +117,11 @@ pub fn select0(words: &[u64], len: usize, k: usize) -> Result<Option<usize>, Ref
 pub fn predecessor1(words: &[u64], len: usize, pos: usize) -> Result<Option<usize>, Refusal>
     ensures { of_optional result ≡ predecessor1_of words.now len pos }
 {
-    if is_invalid(words, len) {
-        return Err(Refusal::InvalidBits);
-    }
+    checked(words, len)?;
     if len == 0 { // there is no last place
         return Ok(None);
     }
-    let from = if pos < len { pos } else { len - 1 };
-    Ok(last_upto(words, from))
+    Ok(last_upto(words, pos.min(len - 1)))
 }
 
 // The used words are written whole: `bit` at every place below len, and 0 past it.
@@ -162,9 +147,7 @@ pub fn from_bit(bit: bool, len: usize, words: &mut [u64]) -> Result<(), Refusal>
 pub fn set_bit(words: &mut [u64], len: usize, pos: usize, bit: bool) -> Result<(), Refusal>
     ensures { leaves (of_done result) words.new ≡ set_bit_of words.old len pos bit }
 {
-    if is_invalid(words, len) {
-        return Err(Refusal::InvalidBits);
-    }
+    checked(words, len)?;
     if len <= pos {
         return Err(Refusal::OutOfBounds);
     }
@@ -177,9 +160,7 @@ pub fn set_bit(words: &mut [u64], len: usize, pos: usize, bit: bool) -> Result<(
 pub fn push_bits(words: &mut [u64], len: usize, bits: u64, width: usize) -> Result<usize, Refusal>
     ensures { leaves (of_result result) words.new ≡ push_bits_of words.old len bits width }
 {
-    if is_invalid(words, len) {
-        return Err(Refusal::InvalidBits);
-    }
+    checked(words, len)?;
     if WORD_LEN < width {
         return Err(Refusal::WideBits);
     }

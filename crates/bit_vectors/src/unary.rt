@@ -9,7 +9,7 @@ ghost use Rattle.bit_words.specs.Inner.{Skipped};
 ghost use Rattle.bit_vectors.specs.Inner.{OneAhead, stop_at};
 ghost use Rattle.bit_vectors.specs.Walk.{of_started, of_stepped, walk_new_of, walk_step_of, next_of, skip1_of, skip0_of, Walking};
 
-use bit_words::{WORD_LEN, find_from, is_invalid, words_for};
+use bit_words::{WORD_LEN, checked, find_from, is_invalid, words_for};
 use broadword::lsb;
 use errors::Refusal;
 
@@ -47,9 +47,7 @@ pub fn walk_from(words: &[u64], from: usize) -> Unary
 pub fn new(words: &[u64], len: usize, start: usize) -> Result<Unary, Refusal>
     ensures { of_started result ≡ walk_new_of words.now len start }
 {
-    if is_invalid(words, len) {
-        return Err(Refusal::InvalidBits);
-    }
+    checked(words, len)?;
     let used = words_for(len);
     if used <= start / WORD_LEN {
         return Err(Refusal::OutOfBounds);
@@ -83,14 +81,12 @@ pub fn skip_zeros(words: &[u64], first: usize, used: usize) -> usize
     requires { (first ≤ used) × (used ≤ length words.now) }
     ensures { Skipped (bit_over true words.now) first used 0 result 0 }
 {
-    let mut word = first;
-    while word < used {
+    for word in first..used {
         if words[word] != 0 {
-            break;
+            return word;
         }
-        word += 1;
     }
-    word
+    used
 }
 
 // A word, and of it the bits that are still ahead of a walk.

@@ -1,5 +1,6 @@
 -- The last one at or before a place, by words: the low bits of its word, and else the last word below that is not 0. Assumes nothing.
 use Rattle.std.specs.Prelude.{Some, None, Option}
+use Rattle.std.specs.Option.{IsSome}
 use mathlib.Core.Path.{◌≡◌, refl, sym, ap, ◌∙◌}
 use mathlib.Core.List.{List}
 use Prim.Native.Nat.{ℕ, zero, suc, ◌+◌, ◌-◌, ◌*◌, ◌/◌, ◌%◌, ◌^◌, ◌≤◌, ◌<◌}
@@ -144,6 +145,10 @@ pub some_place : (f : ℕ → ℕ) (end : ℕ) → 0 < count f end → 1 ≤ end
 unfolding count
 some_place f zero h = absurd (omega arith)
 some_place f (suc end) h = omega arith
+
+pub some_there : (f : ℕ → ℕ) → ((j : ℕ) → f j ≤ 1) → (end : ℕ) → 0 < count f end → (o : Option ℕ) → o ≡ last f end → IsSome o
+some_there f bits end h None e = absurd (some_last f bits end h (sym e))
+some_there f bits end h (Some p) e = refl
 
 -- in the 64 bits before the end
 pub near : (ws : List ℕ) (end w b : ℕ) → 64 ≤ end → end ≤ length ws * 64 → w ≡ word 1 (λ i. bit_at (take (length ws) ws) (end - 64 + i)) 64 → last (bit w) 64 ≡ Some b

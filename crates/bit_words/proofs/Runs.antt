@@ -7,8 +7,8 @@ use Prim.Native.Nat.{ℕ, zero, suc, ◌+◌, ◌-◌, ◌*◌, ◌/◌, ◌%◌
 use native.Mathlib.Nat.{lt_of_not-le, le_of_eq, le_dest, mul_assoc, mul-div_cancel, pow-suc, zero-add, not-suc-le-zero, le_refl, lt_of_lt_of_le, le_of_suc-le-suc, mul-one, mod-eq_of_lt, div-add-mod', le_trans}
 use native.Mathlib.Decide.{dec_lt}
 use native.Mathlib.Omega.{arith}
-use lib.ListN.{length, get_or, take}
-use lib.Seq.{get_or-take}
+use lib.ListN.{length, get_or, take, drop}
+use lib.Seq.{get_or-take, get_or-drop}
 use lib.Dec.{eqb}
 use lib.Pow.{pow_pos, pow-add}
 use Rattle.broadword.specs.Bits.{bit, count, ones}
@@ -111,6 +111,14 @@ module _ (b : Bool) (ws : List ℕ) (fit : Fit ws) where
   pub turn : (i x p : ℕ) → x ≡ word_over b (get_or ws i 0) → p ≡ ones x 64 → count (bit_over b ws) ((i + 1) * 64) ≡ count (bit_over b ws) (i * 64) + p
   turn i x p ex ep = over_next i ∙ ap (λ (y : ℕ). count (bit_over b ws) (i * 64) + y) (sym (ep ∙ ap (λ (y : ℕ). ones y 64) ex))
 
+  -- and over the words of a part of them
+  pub turn_part : (first n i x p : ℕ) → i < n → x ≡ word_over b (get_or (take n (drop first ws)) i 0) → p ≡ ones x 64
+      → (p ≤ 64) × (count (bit_over b ws) ((first + (i + 1)) * 64) ≡ count (bit_over b ws) ((first + i) * 64) + p)
+  turn_part first n i x p h ex ep =
+      let e : get_or (take n (drop first ws)) i 0 ≡ get_or ws (first + i) 0 = get_or-take n (drop first ws) i 0 h ∙ get_or-drop first ws i 0 in
+      let j : (first + (i + 1)) * 64 ≡ (first + i + 1) * 64 = omega arith in
+      (omega (arith, ep, count_le (bit x) 64 (bit_le x)), ap (count (bit_over b ws)) j ∙ turn (first + i) x p (ex ∙ ap (word_over b) e) ep)
+
   -- fewer than the ones of the word i, which is x
   pub left_lt : (i left x : ℕ) → x ≡ word_over b (get_or ws i 0) → count (bit_over b ws) (i * 64) + left < count (bit_over b ws) ((i + 1) * 64) → left < ones x 64
   left_lt i left x ex h = let t = turn i x (ones x 64) ex refl in omega arith
@@ -138,17 +146,20 @@ ones_shl w s n e =
     ap (count (bit y)) (sym e) ∙ count_add (bit y) s n ∙ ap₂ (λ (p q : ℕ). p + q) low high ∙ zero-add (ones w n)
 
 module _ (ws : List ℕ) (r p pos : ℕ) where
-  -- the word i, whole
-  pub rank_whole : (i : ℕ) → r ≡ count (bit_at ws) (i * 64) → p ≡ ones (get_or ws i 0) 64 → r + p ≡ count (bit_at ws) ((i + 1) * 64)
-  rank_whole i er ep = ap₂ (λ (a b : ℕ). a + b) er ep ∙ sym (count_next (bit_at ws) (λ i. get_or ws i 0) (bit_at-word ws) i)
-
-  -- and of the last word the bits below pos
+  -- of the word i the bits below pos
   pub rank_part : (i : ℕ) → r ≡ count (bit_at ws) (i * 64) → i ≡ pos / 64 → p ≡ ones ((get_or ws (pos / 64) 0 * 2 ^ (64 - pos % 64)) % 2 ^ 64) 64 → r + p ≡ count (bit_at ws) pos
   rank_part i er ei ep =
       let n : ℕ = pos % 64 in
       let s : 64 - n + n ≡ 64 = omega arith in
       ap₂ (λ (a b : ℕ). a + b) (er ∙ ap (λ (j : ℕ). count (bit_at ws) (j * 64)) ei) (ep ∙ ones_shl (get_or ws (pos / 64) 0) (64 - n) n s)
       ∙ sym (count_word (bit_at ws) (λ i. get_or ws i 0) (bit_at-word ws) (pos / 64) n (omega arith)) ∙ ap (count (bit_at ws)) (div-add-mod' pos 64)
+
+-- the whole words before the place, counted as ones from the first word on
+pub rank_from : (ws : List ℕ) (n r : ℕ) → count (bit_over true ws) (0 * 64) + r ≡ count (bit_over true ws) (n * 64) → r ≡ count (bit_at ws) (n * 64)
+unfolding count bit_over
+rank_from ws n r e =
+    let s : count (bit_over true ws) (n * 64) ≡ count (bit_at ws) (n * 64) = count_same (bit_over true ws) (bit_at ws) (n * 64) (λ i _. refl) in
+    omega arith
 
 pub rank_le : (ws : List ℕ) (n : ℕ) → count (bit_at ws) n ≤ n
 rank_le ws n = count_le (bit_at ws) n (bit_at_le ws)

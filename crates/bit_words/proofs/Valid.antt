@@ -1,5 +1,9 @@
 -- The cases of `invalid`, and what a vector that is not invalid has. Assumes nothing.
-use mathlib.Core.Path.{◌≡◌, sym, ◌∙◌}
+use Rattle.std.specs.Prelude.{Result, Err, IsErrAnd}
+use Rattle.errors.specs.declared.Refusal.{Refusal}
+use Rattle.errors.specs.declared.Refusal.TheVariants.{InvalidBits}
+use Rattle.errors.proofs.Passing.{refused_so}
+use mathlib.Core.Path.{◌≡◌, sym, ap, ◌∙◌}
 use mathlib.Core.List.{List}
 use mathlib.Core.Bool.{true, false, not}
 use Prim.Native.Nat.{ℕ, ◌/◌, ◌%◌, ◌^◌, ◌≤◌, ◌<◌}
@@ -39,3 +43,7 @@ valid ws len e = record { room = enough (dec_le (words_for len) (length ws)); cl
     zero : (len % 64 ≡ 0 → ⊥) → Dec (words_for len ≤ length ws) → get_or ws (len / 64) 0 / 2 ^ (len % 64) ≡ 0
     zero n (yes l) = eqb-true _ _ (not-false (eqb (get_or ws (len / 64) 0 / 2 ^ (len % 64)) 0) (sym (part ws len l n) ∙ e))
     zero n (no g) = absurd (true_false (sym (short ws len (lt_of_not-le g)) ∙ e))
+
+-- the refusal of no bit vector, handed on
+pub refused_bits : {A : Type 0} (r : Result A Refusal) (e : Refusal) → IsErrAnd r (λ x. x ≡ e) → e ≡ InvalidBits → r ≡ Err InvalidBits
+refused_bits r e h q = refused_so r e h ∙ ap Err q

@@ -3,7 +3,8 @@
 // `words_for` and `is_invalid` take anything. The others are inner: each demands the words that it reads, as its `requires` says.
 #![tactic(auto)]
 
-ghost use Rattle.std.specs.Prelude.{◌≡◌, true, ◌+◌, ◌-◌, ◌*◌, ◌/◌, ◌%◌, ◌^◌, ◌<◌, ◌≤◌, ◌++◌, length, get_or, take, drop, replicate, Some};
+ghost use Rattle.std.specs.Prelude.{◌≡◌, true, false, MatchResult, ◌+◌, ◌-◌, ◌*◌, ◌/◌, ◌%◌, ◌^◌, ◌<◌, ◌≤◌, ◌++◌, length, get_or, take, drop, replicate, Some};
+ghost use Rattle.errors.specs.declared.Refusal.TheVariants.{InvalidBits};
 ghost use Rattle.broadword.specs.Bits.{count};
 ghost use Rattle.broadword.specs.Places.{last, select};
 ghost use Rattle.broadword.specs.Fields.{flag, word};
@@ -11,6 +12,7 @@ ghost use Rattle.bit_words.specs.Vector.{bit_at, bit_over, words_for, invalid, w
 ghost use Rattle.bit_words.specs.Inner.{Skipped, Ending, Appendable, Overwritable, Within, place_in, Findable};
 
 use broadword::{lsb, msb, popcount, select_in_word_within};
+use errors::Refusal;
 
 pub const WORD_LEN: usize = 64;
 
@@ -18,12 +20,7 @@ pub const WORD_LEN: usize = 64;
 pub fn words_for(len: usize) -> usize
     ensures { result ≡ words_for len }
 {
-    let whole = len / WORD_LEN;
-    if len % WORD_LEN == 0 {
-        whole
-    } else {
-        whole + 1
-    }
+    len.div_ceil(WORD_LEN)
 }
 
 // Whether the words are no bit vector of this length: too few of them, or a bit past it is set.
@@ -42,12 +39,29 @@ pub fn is_invalid(words: &[u64], len: usize) -> bool
     words[last] >> left != 0
 }
 
-// The word whose ones are the ones, or the zeros, of the word i.
+// The same as a refusal: of no other bits does a call answer.
+pub fn checked(words: &[u64], len: usize) -> Result<(), Refusal>
+    ensures { MatchResult result (λ _. invalid words.now len ≡ false) (λ e. (e ≡ InvalidBits) × (invalid words.now len ≡ true)) }
+{
+    if is_invalid(words, len) {
+        return Err(Refusal::InvalidBits);
+    }
+    Ok(())
+}
+
+// The word whose ones are the ones, or the zeros, of w.
+fn over(w: u64, over_one: bool) -> u64
+    ensures { result ≡ word_over over_one w }
+{
+    if over_one { w } else { !w }
+}
+
+// The same of the word i.
 pub fn word_over(words: &[u64], i: usize, over_one: bool) -> u64
     requires { i < length words.now }
     ensures { result ≡ word_over over_one (get_or words.now i 0) }
 {
-    if over_one { words[i] } else { !words[i] }
+    over(words[i], over_one)
 }
 
 // The lowest bits of x.
@@ -80,8 +94,19 @@ fn window_over(words: &[u64], used: usize, pos: usize, over_one: bool) -> u64
     requires { (pos / 64 < used) × (used ≤ length words.now) }
     ensures { result ≡ word_over over_one (word 1 (λ i. bit_at (take used words.now) (pos + i)) 64) }
 {
-    let bits = window(words, used, pos);
-    if over_one { bits } else { !bits }
+    over(window(words, used, pos), over_one)
+}
+
+// The ones, or the zeros, of the words from the word `first` on, before the word `end`.
+pub fn count_words(words: &[u64], first: usize, end: usize, over_one: bool) -> usize
+    requires { (first ≤ end) × (end ≤ length words.now) × ((end - first) * 64 < 2 ^ 64) }
+    ensures { count (bit_over over_one words.now) (first * 64) + result ≡ count (bit_over over_one words.now) (end * 64) }
+{
+    let mut n: usize = 0;
+    for w in &words[first..end] {
+        n += popcount(over(*w, over_one));
+    }
+    n
 }
 
 // The ones below pos.
@@ -91,12 +116,7 @@ pub fn rank_words(words: &[u64], pos: usize) -> usize
 {
     let whole = pos / WORD_LEN;
     let left = pos % WORD_LEN;
-    let mut r: usize = 0;
-    let mut i = 0;
-    while i < whole {
-        r += popcount(words[i]);
-        i += 1;
-    }
+    let r = count_words(words, 0, whole, true);
     if left == 0 {
         return r;
     }
@@ -117,7 +137,7 @@ pub fn skip_words(words: &[u64], first: usize, used: usize, over_one: bool, k: u
 {
     let mut word = first;
     let mut left = k;
-    while word < used {
+    while word < used { // no `for`: with it select1 was measured to take a quarter longer
         let ones = popcount(word_over(words, word, over_one));
         if left < ones {
             break;
@@ -133,10 +153,7 @@ fn place_in(i: usize, found: Option<usize>) -> Option<usize>
     requires { (i < 2 ^ 58) × Within found }
     ensures { result ≡ place_in i found }
 {
-    match found {
-        Some(bit) => Some(i * WORD_LEN + bit),
-        None => None,
-    }
+    found.map(|bit| i * WORD_LEN + bit)
 }
 
 // The place of the one, or the zero, that k of its kind stand before from the place `from` on, in the first `used` words.
@@ -152,13 +169,11 @@ pub fn find_from(words: &[u64], used: usize, over_one: bool, from: usize, k: usi
         return Some(at * WORD_LEN + select_in_word_within(first, k));
     }
     let spot = skip_words(words, at + 1, used, over_one, k - ones);
-    let word = spot.word;
-    let left = spot.left;
-    if word == used {
+    if spot.word == used {
         return None;
     }
-    let bits = word_over(words, word, over_one);
-    Some(word * WORD_LEN + select_in_word_within(bits, left))
+    let bits = word_over(words, spot.word, over_one);
+    Some(spot.word * WORD_LEN + select_in_word_within(bits, spot.left))
 }
 
 // The same where there is such a one or zero, as a place, but the place's own word does not have it: word by word.
@@ -170,10 +185,8 @@ fn find_by_words(words: &[u64], used: usize, over_one: bool, from: usize, k: usi
     let shift = from % WORD_LEN;
     let rest = popcount((word_over(words, at, over_one) >> shift) << shift);
     let spot = skip_words(words, at + 1, used, over_one, k - rest);
-    let word = spot.word;
-    let left = spot.left;
-    let bits = word_over(words, word, over_one);
-    word * WORD_LEN + select_in_word_within(bits, left)
+    let bits = word_over(words, spot.word, over_one);
+    spot.word * WORD_LEN + select_in_word_within(bits, spot.left)
 }
 
 // The same: mostly the 64 bits from the place on have it, wherever its word begins.
@@ -204,15 +217,12 @@ pub fn last_used(words: &[u64], end: usize) -> usize
     requires { end ≤ length words.now }
     ensures { Ending words.now end result }
 {
-    let mut n = end;
-    while 0 < n {
-        let i = n - 1;
+    for i in (0..end).rev() {
         if words[i] != 0 {
-            break;
+            return i + 1;
         }
-        n = i;
     }
-    n
+    0
 }
 
 // The place of the last one at or before pos.
@@ -238,10 +248,7 @@ fn last_by_words(words: &[u64], end: usize) -> usize
     requires { (end ≤ length words.now * 64) × (0 < count (bit_at words.now) end) }
     ensures { last (bit_at words.now) end ≡ Some result }
 {
-    match last_upto(words, end - 1) {
-        Some(place) => place,
-        None => 0,
-    }
+    last_upto(words, end - 1).unwrap()
 }
 
 // The same: mostly it is one of the 64 bits before `end`.
@@ -264,17 +271,13 @@ pub fn fill(words: &mut [u64], n: usize, x: u64)
     requires { n ≤ length words.old }
     ensures { words.new ≡ replicate n x ++ drop n words.old }
 {
-    let mut i = 0;
-    while i < n {
-        words[i] = x;
-        i += 1;
-    }
+    words[..n].fill(x);
 }
 
 pub fn bit_word(bit: bool) -> u64
     ensures { result ≡ flag bit }
 {
-    if bit { 1 } else { 0 }
+    u64::from(bit)
 }
 
 // The word with `bit` at every place.

@@ -41,7 +41,7 @@ fn leq_step_8(x: u64, y: u64) -> u64
     ((((y | MSBS_STEP_8) - (x & !MSBS_STEP_8)) ^ (x ^ y)) & MSBS_STEP_8) >> 7
 }
 
-// The same, and it compares only bytes below 128 too.
+// The same, and it compares only bytes below 128 too. (Both stay, each a function of the Rust that the port is held to: docs/DECISIONS.md.)
 fn uleq_step_8(x: u64, y: u64) -> u64
     requires { LowBytes x × LowBytes y }
     ensures { result ≡ word 8 (λ i. flag (leb (digit 8 x i) (digit 8 y i))) 8 }

@@ -3,7 +3,7 @@ use mathlib.Core.Path.{◌≡◌, refl, sym, ap, ap₂, ◌∙◌, subst}
 use mathlib.Core.List.{List, ◌++◌}
 use mathlib.Core.Bool.{Bool, true, false}
 use Prim.Native.Nat.{ℕ, ◌+◌, ◌-◌, ◌*◌, ◌/◌, ◌^◌, ◌≤◌, ◌<◌, min}
-use native.Mathlib.Nat.{not-suc-le-zero, zero-add}
+use native.Mathlib.Nat.{not-suc-le-zero}
 use native.Mathlib.Decide.{dec_lt}
 use native.Mathlib.Numerals.{add-one}
 use native.Mathlib.Omega.{arith}
@@ -174,18 +174,18 @@ module _ (b : Bool) (ws : List ℕ) (len : ℕ) (s : Sizes) (m : ℕ) (w : Writa
       spilled_next o k e q = ap₂ (λ (u v : ℕ). u + v) e (q ∙ spill_is) ∙ sym (ap (before (positions b ws len)) (add-one j) ∙ index.before_next (positions b ws len) j)
 
       module _ (o : ℕ) (eo : o ≡ before (positions b ws len) j) (l : List ℕ) where
-        lanes_at_lem : lanes_at 0 s j ≡ blocks (positions b ws len) + 8 * j
+        lanes_at_lem : lanes_at s j ≡ blocks (positions b ws len) + 8 * j
         lanes_at_lem = omega (arith, w.entries)
 
-        over_at_lem : over_at 0 s o ≡ blocks (positions b ws len) + lane_words (positions b ws len) + before (positions b ws len) j
+        over_at_lem : over_at s o ≡ blocks (positions b ws len) + lane_words (positions b ws len) + before (positions b ws len) j
         over_at_lem = omega (arith, lanes_start (positions b ws len) s w.entries w.lanes)
 
-        pub index_matches : l ≡ index_words (positions b ws len) → Matches a z (0 + j) (lanes_at 0 s j) o (over_at 0 s o) l
+        pub index_matches : l ≡ index_words (positions b ws len) → Matches a z j (lanes_at s j) o (over_at s o) l
         index_matches e =
-            matching.matches_at a l (sym (size_is j z ez)) (sym (zero-add j)) (sym lanes_at_lem) (sym eo) (sym over_at_lem) (matching.index_matches (positions b ws len) j there a stored l e)
+            matching.matches_at a l (sym (size_is j z ez)) refl (sym lanes_at_lem) (sym eo) (sym over_at_lem) (matching.index_matches (positions b ws len) j there a stored l e)
 
-        pub next_matches : Matches a z (0 + j) (lanes_at 0 s j) o (over_at 0 s o) l → Holds (positions b ws len) l j → Holds (positions b ws len) l (j + 1)
-        next_matches e = matching.matches_next (positions b ws len) j there a stored l (matching.matches_at a l (size_is j z ez) (zero-add j) lanes_at_lem eo over_at_lem e)
+        pub next_matches : Matches a z j (lanes_at s j) o (over_at s o) l → Holds (positions b ws len) l j → Holds (positions b ws len) l (j + 1)
+        next_matches e = matching.matches_next (positions b ws len) j there a stored l (matching.matches_at a l (size_is j z ez) refl lanes_at_lem eo over_at_lem e)
 
       module _ (o : ℕ) (eo : o ≡ before (positions b ws len) j) (l : List ℕ) (el : length l ≡ m) where
         room : length (index_words (positions b ws len)) ≤ length l

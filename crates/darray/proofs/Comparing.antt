@@ -7,11 +7,11 @@ use native.Mathlib.Nat.{le_refl}
 use native.Mathlib.Omega.{arith}
 use lib.ListN.{length}
 use Rattle.broadword.specs.Bits.{count}
-use Rattle.bit_words.specs.Vector.{bit_over}
+use Rattle.bit_words.specs.Vector.{bit_over, words_for}
 use Rattle.darray_positions.specs.Positions.{positions}
 use Rattle.darray_positions.specs.Index.{blocks, lanes, lane_words, before, index_words}
 use Rattle.darray_positions.specs.Scan.{Ahead, Inside, last_in_block}
-use Rattle.darray.specs.Sizes.{Sized, Writable, Comparable}
+use Rattle.darray.specs.Sizes.{Sized, Writable, Comparable, sizes_by}
 use Rattle.darray.specs.Pending.{Loaded, block_spill, Comparing, SameWords}
 use Rattle.darray_positions.specs.declared.scan.Cursor.{Cursor}
 use Rattle.darray.specs.declared.inner.Sizes.{Sizes}
@@ -46,6 +46,24 @@ compared_none b ws len s l a e = record {
 pub too_short : (b : Bool) (ws : List ℕ) (len n : ℕ) → n ≡ count (bit_over b ws) len → (l : List ℕ) → length l < (n + 1023) / 1024 + ((n + 31) / 32 + 3) / 4 → l ≡ index_words (positions b ws len) → ⊥
 unfolding blocks lanes lane_words
 too_short b ws len n e l h q = omega (arith, index.length_index (positions b ws len), block.length_is b ws len n e, ap length q)
+
+-- the words that are left are to be overflow positions
+pub least_is : (n t : ℕ) (s : Sizes) → s ≡ sizes_by n 0 → t ≡ s.entries + (s.lanes + 3) / 4 + s.overflow → t ≡ (n + 1023) / 1024 + ((n + 31) / 32 + 3) / 4
+least_is n t s e q = omega (arith, q, ap (λ (z : Sizes). z.entries) e, ap (λ (z : Sizes). z.lanes) e, ap (λ (z : Sizes). z.overflow) e)
+
+pub left_over : (b : Bool) (ws : List ℕ) (len n t k : ℕ) (s : Sizes) → words_for len ≤ length ws → len < 2 ^ 63 → n ≡ count (bit_over b ws) len → s ≡ sizes_by n 0 → t ≡ s.entries + (s.lanes + 3) / 4 + s.overflow → t ≤ k
+    → Comparable b ws len (record { positions = s.positions; entries = s.entries; lanes = s.lanes; overflow = k - t }) k
+left_over b ws len n t k s h f e d q r =
+    let p : s.positions ≡ n = ap (λ (z : Sizes). z.positions) d in
+    let o : s.overflow ≡ 0 = ap (λ (z : Sizes). z.overflow) d in
+    record {
+      words = h;
+      few = f;
+      positions = p ∙ e;
+      entries = ap (λ (z : Sizes). z.entries) d ∙ ap (λ (m : ℕ). (m + 1023) / 1024) (sym p);
+      lanes = ap (λ (z : Sizes). z.lanes) d ∙ ap (λ (m : ℕ). (m + 31) / 32) (sym p);
+      long = omega (arith, q, o, r);
+    }
 
 module _ (b : Bool) (ws : List ℕ) (len : ℕ) (s : Sizes) (l : List ℕ) (w : Comparable b ws len s (length l)) where
   abbrev P : List ℕ

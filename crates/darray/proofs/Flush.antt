@@ -1,7 +1,7 @@
 -- What a flush writes: the laws of `put` and of a block of pending positions, and that it makes the words of one block more the index's.
 -- Assumes nothing.
 use mathlib.Core.Path.{◌≡◌, refl, sym, ap, ap₂, ◌∙◌}
-use mathlib.Core.List.{List}
+use mathlib.Core.List.{List, ◌++◌}
 use mathlib.Core.Bool.{Bool, true, false, cond}
 use mathlib.Core.Logic.{◌⊎◌, ⊎_elim}
 use Prim.Native.Nat.{ℕ, zero, suc, ◌+◌, ◌-◌, ◌*◌, ◌/◌, ◌^◌, ◌≤◌, ◌<◌, zero-le}
@@ -11,8 +11,11 @@ use native.Mathlib.Numerals.{add-one}
 use native.Mathlib.Omega.{arith}
 use borrow.Author.Tests.{lt-ltb, le-ltb, leb-false}
 use lib.Dec.{leb}
-use lib.ListN.{length, get_or, set, length-set}
-use lib.Seq.{get_or-set_same, get_or-set_other}
+use borrow.Rule.Slice.PartMut.{put_mid}
+use lib.ListN.{length, get_or, set, take, drop, length-set}
+use lib.Seq.{paste, get_or-set_same, get_or-set_other, take-take, length-take-le}
+use Rattle.std.proofs.lemmas.List.Edits.{paste_none, paste_more}
+use Rattle.std.proofs.lemmas.Slice.{put_mid-paste}
 use Rattle.broadword.specs.Fields.{word}
 use Rattle.broadword.proofs.Fields.{word_same}
 use Rattle.darray_positions.specs.Index.{pos, blocks, size, wide, spill, before, entry, lanes, lane, lane_word, lane_words, overflow, index_words}
@@ -53,6 +56,21 @@ pub put_high : (l : List ℕ) (at : ℕ) (f : ℕ → ℕ) (n k : ℕ) → at + 
 unfolding put
 put_high l at f zero k h = refl
 put_high l at f (suc n) k h = get_or-set_other (put l at f n) (at + n) k (f n) 0 (λ (q : k ≡ at + n). omega arith) ∙ put_high l at f n k (omega arith)
+
+-- the words of a list are as many values
+pub put-paste : (l : List ℕ) (at : ℕ) (s : List ℕ) (n : ℕ) → at + n ≤ length l → n ≤ length s → put l at (λ i. get_or s i 0) n ≡ paste l at s n
+unfolding put
+put-paste l at s zero h k = paste_none l at s
+put-paste l at s (suc n) h k =
+    ap (λ (m : List ℕ). set m (at + n) (get_or s n 0)) (put-paste l at s n (omega arith) (omega arith))
+    ∙ paste_more l at s n 0 (omega arith) k ∙ ap (paste l at s) (add-one n)
+
+-- they are copied to the place
+pub put_copied : (l : List ℕ) (at end : ℕ) (s c : List ℕ) (n : ℕ) → end ≡ at + n → end ≤ length l → n ≤ length s → c ≡ take n s → put_mid at (end - at) l c ≡ put l at (λ i. get_or s i 0) n
+put_copied l at end s c n e h k q =
+    put_mid-paste at (end - at) l c (take n s) n q (omega arith) (sym (length-take-le n s k))
+    ∙ ap (λ (m : List ℕ). take at l ++ m ++ drop (at + n) l) (take-take n n s (le_refl n))
+    ∙ sym (put-paste l at s n (omega arith) k)
 
 -- ---- a block of pending positions
 
@@ -255,9 +273,6 @@ module _ (a : List ℕ) (n j lanes_at o over_at : ℕ) (l l₁ l₂ : List ℕ) 
       e ∙ ap₂ (λ (m : List ℕ) (k : ℕ). put m over_at (λ i. get_or a i 0) k) Lanes-put r
       ∙ ap (λ (x : ℕ). put (put (set l j x) lanes_at (block_lane_word a n) ((n + 127) / 128)) over_at (λ i. get_or a i 0) (block_spill a n))
       (q ∙ ap (λ (b : Bool). cond b (2 ^ 64 - (o + 1)) (get_or a 0 0)) p)
-
-  pub flush_length : l₂ ≡ put l₁ over_at (λ i. get_or a i 0) s → length l₂ ≡ length l
-  flush_length e = ap length e ∙ length-put l₁ over_at (λ i. get_or a i 0) s ∙ lanes-length
 
 pub entry_is : (a : List ℕ) (n o v : ℕ) (w : Bool) → w ≡ block_wide a n → v ≡ cond w (2 ^ 64 - (o + 1)) (get_or a 0 0) → v ≡ block_entry a n o
 unfolding block_entry

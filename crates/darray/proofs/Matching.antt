@@ -9,11 +9,17 @@ use native.Mathlib.Decide.{dec_lt, ℕ_discrete}
 use native.Mathlib.Numerals.{add-one}
 use native.Mathlib.Omega.{arith}
 use borrow.Author.Tests.{eq-eqb, ne_eqb}
-use lib.ListN.{length, get_or}
-use lib.Seq.{ext_get_or}
+use lib.Dec.{eqb}
+use lib.ListN.{length, get_or, take, drop, length-drop}
+use lib.Seq.{ext_get_or, get_or-take, get_or-drop, length-take-le}
+use Rattle.std.specs.Cmp.Lexicographic.{pointwise}
+use Rattle.std.proofs.lemmas.Bool.Decides.{Decides-eqb}
+use Rattle.std.proofs.lemmas.Slice.Eq.{slice_eq-Decides}
 use Rattle.broadword.proofs.Truth.{true_false}
 use Rattle.darray_positions.specs.Index.{blocks, size, spill, before, entry, lane_word, lane_words, overflow, index_words}
-use Rattle.darray.specs.Pending.{Decides, Matches}
+use Rattle.darray.specs.Pending.{Decides, Reads, Matches, SameWords, Compares, block_spill, lanes_at, over_at}
+use Rattle.darray.specs.declared.inner.Sizes.{Sizes}
+use Rattle.std.specs.Bool.{then_some}
 use Rattle.darray.specs.Queries.{same}
 use Rattle.darray_positions.proofs.Index as index
 use Rattle.darray_positions.proofs.Index.{Holds}
@@ -34,6 +40,24 @@ matches_at a l {n} {n'} {j} {j'} {x} {x'} {o} {o'} {y} {y'} p i q r t m =
     subst (λ (k : ℕ). Matches a k j' x' o' y' l) p
     (subst (λ (k : ℕ). Matches a n k x' o' y' l) i
     (subst (λ (k : ℕ). Matches a n j k o' y' l) q (subst (λ (k : ℕ). Matches a n j x k y' l) r (subst (λ (k : ℕ). Matches a n j x o k l) t m))))
+
+-- a part of words that is compared with the first n words of a list
+pub reads_is : (l : List ℕ) (at end : ℕ) (s : List ℕ) (n : ℕ) (r : Bool) → end ≡ at + n → end ≤ length l → n ≤ length s → r ≡ pointwise eqb (take (end - at) (drop at l)) (take n s) → Decides r (Reads l at (λ i. get_or s i 0) n)
+reads_is l at end s n r e h k q =
+    let d = slice_eq-Decides {E = eqb} Decides-eqb (take (end - at) (drop at l)) (take n s) r q in
+    let part : (i : ℕ) → i < n → get_or (take (end - at) (drop at l)) i 0 ≡ get_or l (at + i) 0 = λ i g. get_or-take (end - at) (drop at l) i 0 (omega arith) ∙ get_or-drop at l i 0 in
+    let long : length (take (end - at) (drop at l)) ≡ n = length-take-le (end - at) (drop at l) (omega (arith, length-drop at l)) ∙ omega arith in
+    record {
+      yes = λ t i g. sym (part i g) ∙ ap (λ (x : List ℕ). get_or x i 0) (d.0 t) ∙ get_or-take n s i 0 g;
+      no = λ f x. true_false (sym (d.1 (ext_get_or 0 _ _ (long ∙ sym (length-take-le n s k)) (λ i g.
+          let m : i < n = subst (λ (z : ℕ). i < z) long g in
+          part i m ∙ x i m ∙ sym (get_or-take n s i 0 m)))) ∙ f);
+    }
+
+-- a block with room whose words were compared
+pub compares_by : (a : List ℕ) (n : ℕ) (s : Sizes) (j o : ℕ) (l : List ℕ) (r : Bool) (k : ℕ) → Decides r (Matches a n j (lanes_at s j) o (over_at s o) l) → k ≡ block_spill a n → o + k ≤ s.overflow → Compares a n s j o l (then_some r k)
+compares_by a n s j o l true k d e h = (e, record { room = omega arith; matches = d.yes refl })
+compares_by a n s j o l false k d e h = λ (m : SameWords a n s j o l). d.no refl m.matches
 
 -- ---- the block j of the positions P
 

@@ -1,9 +1,10 @@
 -- A word read as a signed number, and a negative one taken to the place that it points at. Assumes nothing.
+use borrow.Author.Rules.{rules}
 use borrow.Author.Tests.{le-ltb, lt-ltb, ltb-true}
-use mathlib.Core.Path.{◌≡◌, refl, sym, ap, ◌∙◌, subst⁻¹}
+use mathlib.Core.Path.{◌≡◌, sym, ap, ◌∙◌, subst⁻¹}
 use mathlib.Core.Bool.{Bool, true, false, cond}
-use Prim.Native.Nat.{ℕ, zero, suc, ◌+◌, ◌-◌, ◌^◌, ◌≤◌, ◌<◌}
-use native.Mathlib.Nat.{zero-add, not-suc-le-zero, lt_of_not-le}
+use Prim.Native.Nat.{ℕ, suc, ◌+◌, ◌-◌, ◌^◌, ◌≤◌, ◌<◌}
+use native.Mathlib.Nat.{not-suc-le-zero, lt_of_not-le}
 use native.Mathlib.Decide.{dec_lt}
 use native.Mathlib.Omega.{arith}
 use lib.Dec.{T}
@@ -11,13 +12,9 @@ use lib.IntN.{ℤ, pos, negsuc, nat_abs, sub_ℕ, ◌-ℤ◌}
 use lib.Signed.{non_neg, lt_z}
 use mir.Syntax.{w64}
 use mir.Val.{Fits, SFits, to_z, of_z}
-use mir.ValLaws.{to_z_pos, to_z-of_z}
+use mir.ValLaws.{to_z-of_z}
 use Rattle.darray.specs.Select.{signed_of, entry_of}
 use Rattle.darray.specs.declared.select.Entry.TheVariants.{First, Overflow}
-
-below_one : (k : ℕ) → negsuc 0 -ℤ pos k ≡ negsuc k
-below_one zero = refl
-below_one (suc k) = ap (λ (n : ℕ). negsuc (suc n)) (zero-add k)
 
 module _ (w : ℕ) (h : w < 2 ^ 64) where
   pub signed_low : w < 2 ^ 63 → signed_of w ≡ pos w
@@ -32,21 +29,9 @@ module _ (w : ℕ) (h : w < 2 ^ 64) where
   pub entry_high : 2 ^ 63 ≤ w → entry_of w ≡ Overflow (2 ^ 64 - 1 - w)
   entry_high l = ap (λ (t : Bool). cond t (First w) (Overflow (2 ^ 64 - 1 - w))) (le-ltb w (2 ^ 63) l)
 
-  module _ (l : 2 ^ 63 ≤ w) where
-    abbrev v : ℕ
-    v = 2 ^ 64 - 1 - w
-
-    less : negsuc 0 -ℤ to_z w64 v ≡ negsuc v
-    less = ap (λ (z : ℤ). negsuc 0 -ℤ z) (to_z_pos w64 v (omega arith)) ∙ below_one v
-
-    pub less_fits : SFits w64 (negsuc 0 -ℤ to_z w64 v)
-    less_fits = subst⁻¹ (SFits w64) less (record { sfits = omega arith })
-
-    pub read_high : to_z w64 (of_z w64 (negsuc 0 -ℤ to_z w64 v)) ≡ signed_of w
-    read_high = to_z-of_z w64 (negsuc 0 -ℤ to_z w64 v) less_fits ∙ less ∙ sym (signed_high l)
-
-  pub read_low : w < 2 ^ 63 → to_z w64 w ≡ signed_of w
-  read_low l = to_z_pos w64 w l ∙ sym (signed_low l)
+-- a word that is cast to a signed number
+pub cast_is : (w : ℕ) (e : ℤ) → w < 2 ^ 64 → e ≡ to_z w64 w → e ≡ signed_of w
+cast_is w e h q = search (rules, q)
 
 -- ---- -e - 1, of a negative e
 

@@ -155,16 +155,16 @@ module _ (ws : List ℕ) (len : ℕ) (b : Bool) (index : List ℕ) (n : ℕ) (I 
           let q = kind.1 in
           omega arith
 
-      pub overflow_is : Some (get_or index (E + L + x + k % 1024) 0) ≡ select f len k
-      overflow_is =
+      pub overflow_is : (at : ℕ) → at ≡ E + L + x + k % 1024 → Some (get_or index at 0) ≡ select f len k
+      overflow_is at e =
           let q = kind.1 in
-          let p : E + L + x + k % 1024 ≡ blocks P + lane_words P + (before P j + k % 1024) = (let u = blocks_are in let v = lane-words_are in omega arith) in
+          let p : at ≡ blocks P + lane_words P + (before P j + k % 1024) = (let u = blocks_are in let v = lane-words_are in omega arith) in
           let d : 1024 * j + k % 1024 ≡ k = omega arith in
           ap Some (ap₂ (λ (l : List ℕ) (i : ℕ). get_or l i 0) I.is p ∙ laws.index_spilled P j (k % 1024) in_spill in_blocks ∙ ap (pos P) d) ∙ sym select_is
 
     -- ---- a block with distances
 
-    module _ (x d : ℕ) (ex : entry_of (get_or index j 0) ≡ First x) (ed : d ≡ bit_and (get_or index (E + k / 32 / 4) 0 / 2 ^ (16 * (k / 32 % 4))) 0xffff) where
+    module _ (e : ℕ) (ee : e ≡ E) (x d : ℕ) (ex : entry_of (get_or index j 0) ≡ First x) (ed : d ≡ bit_and (get_or index (e + k / 32 / 4) 0 / 2 ^ (16 * (k / 32 % 4))) 0xffff) where
       near : (wide P j ≡ false) × (x ≡ pos P (1024 * j))
       unfolding Reads
       near = (reads (wide P j) refl).3 x ex
@@ -178,7 +178,7 @@ module _ (ws : List ℕ) (len : ℕ) (b : Bool) (index : List ℕ) (n : ℕ) (I 
 
       lane_is : d ≡ pos P (32 * (k / 32)) - pos P (1024 * j)
       lane_is =
-          let p : E + k / 32 / 4 ≡ blocks P + k / 32 / 4 = ap (λ (y : ℕ). y + k / 32 / 4) blocks_are in
+          let p : e + k / 32 / 4 ≡ blocks P + k / 32 / 4 = ap (λ (y : ℕ). y + k / 32 / 4) (ee ∙ blocks_are) in
           let q : 4 * (k / 32 / 4) + k / 32 % 4 ≡ k / 32 = omega arith in
           let g : k / 32 / 32 ≡ j = omega arith in
           ed

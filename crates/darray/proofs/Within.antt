@@ -3,13 +3,13 @@ use Rattle.std.specs.Prelude.{Ok}
 use mathlib.Core.Path.{◌≡◌, refl, sym, ap, ◌∙◌}
 use mathlib.Core.List.{List}
 use mathlib.Core.Bool.{Bool, true, false}
-use Prim.Native.Nat.{ℕ, ◌+◌, ◌-◌, ◌^◌, ◌≤◌, ◌<◌}
+use Prim.Native.Nat.{ℕ, ◌+◌, ◌^◌, ◌≤◌, ◌<◌}
 use native.Mathlib.Nat.{lt_of_not-le}
 use native.Mathlib.Decide.{dec_le}
 use native.Mathlib.Omega.{arith}
 use lib.ListN.{length, take, drop}
 use lib.Seq.{take-add, take-take, drop_at, length-take-le}
-use Rattle.bit_words.specs.Vector.{words_for, invalid}
+use Rattle.bit_words.specs.Vector.{invalid}
 use Rattle.darray_positions.specs.Positions.{positions}
 use Rattle.darray_positions.specs.Index.{blocks, overflow}
 use Rattle.darray.specs.Sizes.{Sized}
@@ -24,11 +24,6 @@ part_same n m at l l' h k k' e = by l k ∙ ap (λ (x : List ℕ). drop n (take 
   where
     by : (l : List ℕ) → n ≤ length l → take m (drop n l) ≡ drop n (take (n + m) (take at l))
     by l k = sym (ap (drop n) (take-take (n + m) at l h ∙ take-add n m l) ∙ drop_at (take n l) (take m (drop n l)) n (length-take-le n l k))
-
--- the words of the bits are those that were lent
-pub part_is : (l₀ l : List ℕ) (first len at end : ℕ) → first + words_for len ≤ at → at ≤ length l₀ → length l ≡ length l₀ → take at l ≡ take at l₀ → end ≡ first + words_for len → take (end - first) (drop first l) ≡ take (words_for len) (drop first l₀)
-part_is l₀ l first len at end h k q e d =
-    ap (λ (n : ℕ). take n (drop first l)) (let c : end - first ≡ words_for len = omega arith in c) ∙ part_same first (words_for len) at l l₀ h (omega arith) (omega arith) e
 
 -- ---- what a measure says
 

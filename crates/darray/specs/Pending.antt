@@ -5,7 +5,6 @@ use Rattle.broadword.specs.Fields.{word}
 use Rattle.darray_positions.specs.Scan.{Position, Ahead, Inside, Hits}
 use Rattle.darray_positions.specs.declared.scan.Cursor.{Cursor}
 use Rattle.darray_positions.specs.declared.scan.Hit.{Hit}
-use Rattle.darray.specs.declared.pending.Pending.{Pending}
 use Rattle.darray.specs.declared.inner.Sizes.{Sizes}
 
 -- the positions of a block that its words need: all of a wide one, else every 32nd
@@ -72,16 +71,12 @@ pub record Flushable (a : List ℕ) (n j lanes_at o over_at m : ℕ) : Type 0 wh
   pub lanes_room : lanes_at + (n + 127) / 128 ≤ m
   pub over_room : over_at + block_spill a n ≤ m
 
--- where the distances of the block j stand in the index at the place at, and where overflow positions with o before them do
-abbrev pub lanes_at : ℕ → Sizes → ℕ → ℕ
-lanes_at at s j = at + s.entries + 8 * j
+-- where the distances of the block j stand in the index, and where overflow positions with o before them do
+abbrev pub lanes_at : Sizes → ℕ → ℕ
+lanes_at s j = s.entries + 8 * j
 
-abbrev pub over_at : ℕ → Sizes → ℕ → ℕ
-over_at at s o = at + s.entries + (s.lanes + 3) / 4 + o
-
--- the pending positions, none of them pending any more
-abbrev pub emptied : Pending → Pending
-emptied p = record { positions = p.positions; count = 0 }
+abbrev pub over_at : Sizes → ℕ → ℕ
+over_at s o = s.entries + (s.lanes + 3) / 4 + o
 
 -- r says whether A holds
 pub record Decides (r : Bool) (A : Type 0) : Type 0 where
@@ -112,7 +107,7 @@ pub record Comparing (a : List ℕ) (n : ℕ) (s : Sizes) (j o m : ℕ) : Type 0
 -- its words are those of l, which has room for what it spills
 pub record SameWords (a : List ℕ) (n : ℕ) (s : Sizes) (j o : ℕ) (l : List ℕ) : Type 0 where
   pub room : o + block_spill a n ≤ s.overflow
-  pub matches : Matches a n (0 + j) (lanes_at 0 s j) o (over_at 0 s o) l
+  pub matches : Matches a n j (lanes_at s j) o (over_at s o) l
 
 abbrev pub Compares : List ℕ → ℕ → Sizes → ℕ → ℕ → List ℕ → Option ℕ → Type 0
 Compares a n s j o l (Some k) = (k ≡ block_spill a n) × SameWords a n s j o l

@@ -17,8 +17,8 @@ ghost use Rattle.darray.specs.Queries.{of_measured, measure_of, build_index_of, 
 ghost use Rattle.darray_positions.specs.Scan.{FullBlocks};
 ghost use Rattle.darray.specs.Sizes.{sizes_by, Sized, Writable, Comparable};
 
-use crate::pending::{compare, empty, flush, load, spill};
-use bit_words::{is_invalid, words_for};
+use crate::pending::{compare, flush, load};
+use bit_words::{checked, words_for};
 use darray_positions::scan::{
     BLOCK_LEN, Cursor, Full, SUBBLOCK_LEN, block_size, count_positions, ends, full_blocks, spilled,
     tail_positions,
@@ -41,9 +41,7 @@ pub struct Sizes {
 pub fn measure(words: &[u64], len: usize, over_one: bool) -> Result<Sizes, Refusal>
     ensures { of_measured result ≡ measure_of words.now len over_one }
 {
-    if is_invalid(words, len) {
-        return Err(Refusal::InvalidBits);
-    }
+    checked(words, len)?;
     if len >= MAX_LEN {
         return Err(Refusal::TooMany);
     }
@@ -54,9 +52,7 @@ pub fn measure(words: &[u64], len: usize, over_one: bool) -> Result<Sizes, Refus
 pub fn build(words: &[u64], len: usize, over_one: bool, out: &mut [u64]) -> Result<usize, Refusal>
     ensures { leaves (of_result result) out.new ≡ build_index_of words.now len over_one out.old }
 {
-    if is_invalid(words, len) {
-        return Err(Refusal::InvalidBits);
-    }
+    checked(words, len)?;
     if len >= MAX_LEN {
         return Err(Refusal::TooMany);
     }
@@ -73,9 +69,7 @@ pub fn build(words: &[u64], len: usize, over_one: bool, out: &mut [u64]) -> Resu
 pub fn validate(words: &[u64], len: usize, over_one: bool, index: &[u64]) -> Result<bool, Refusal>
     ensures { of_truth result ≡ validate_of words.now len over_one index.now }
 {
-    if is_invalid(words, len) {
-        return Err(Refusal::InvalidBits);
-    }
+    checked(words, len)?;
     if len >= MAX_LEN {
         return Err(Refusal::TooMany);
     }
@@ -88,16 +82,12 @@ fn overflow_of(words: &[u64], len: usize, over_one: bool, n: usize, full: Full) 
     requires { (words_for len ≤ length words.now) × (len < 2 ^ 63) × (n ≡ count (bit_over over_one words.now) len) × FullBlocks over_one words.now len full }
     ensures { result ≡ before (positions over_one words.now len) ((n + 1023) / 1024) }
 {
-    let blocks = (n + (BLOCK_LEN - 1)) / BLOCK_LEN;
     let mut overflow = full.overflow;
     let mut at = full.from;
-    let mut j = full.blocks;
-    while j < blocks {
+    for j in full.blocks..n.div_ceil(BLOCK_LEN) {
         let s = ends(words, over_one, n, j, at);
         overflow += spilled(s.first, s.last, block_size(n, j));
-        let next = s.next;
-        at = next;
-        j += 1;
+        at = s.next;
     }
     overflow
 }
@@ -109,8 +99,8 @@ fn sizes_by(n: usize, overflow: usize) -> Sizes
 {
     Sizes {
         positions: n,
-        entries: (n + (BLOCK_LEN - 1)) / BLOCK_LEN,
-        lanes: (n + (SUBBLOCK_LEN - 1)) / SUBBLOCK_LEN,
+        entries: n.div_ceil(BLOCK_LEN),
+        lanes: n.div_ceil(SUBBLOCK_LEN),
         overflow,
     }
 }
@@ -130,67 +120,28 @@ fn total(s: Sizes) -> usize
     requires { (s.lanes + 3 < 2 ^ 64) × (s.entries + (s.lanes + 3) / 4 + s.overflow < 2 ^ 64) }
     ensures { result ≡ s.entries + (s.lanes + 3) / 4 + s.overflow }
 {
-    s.entries + (s.lanes + 3) / 4 + s.overflow
+    s.entries + s.lanes.div_ceil(4) + s.overflow
 }
 
-// Writes the index of the bits, whose sizes are s, block by block. (`len` says in the contract which bits those are.)
-fn write(words: &[u64], len: usize, over_one: bool, s: Sizes, out: &mut [u64])
+// Writes the index of the bits, whose sizes are s, block by block. (`len` says in the contract which bits those are. Of the sizes the overflow is not
+// looked at.) How many positions went to the overflow comes back.
+fn write(words: &[u64], len: usize, over_one: bool, s: Sizes, out: &mut [u64]) -> usize
     requires { Writable (positions over_one words.now len) len (length words.now) s (length out.old) }
-    ensures { out.new ≡ index_words (positions over_one words.now len) ++ drop (length (index_words (positions over_one words.now len))) out.old }
+    ensures { (out.new ≡ index_words (positions over_one words.now len) ++ drop (length (index_words (positions over_one words.now len))) out.old) × (result ≡ before (positions over_one words.now len) (blocks (positions over_one words.now len))) }
 {
     let n = s.positions;
-    let blocks = s.entries;
-    let mut p = empty();
+    let mut a = [0u64; 1024];
     let mut from = Cursor { word: 0, before: 0 };
     let mut over: usize = 0;
-    let mut j: usize = 0;
-    while j < blocks {
-        let size = block_size(n, j);
-        let next = load(&mut p.positions, words, over_one, n, j, from);
-        from = next;
-        p.count = size;
-        let more = spill(&p.positions, size);
-        p = flush(p, &mut *out, 0, s, j, over);
-        over += more;
-        j += 1;
-    }
-}
-
-// Writes the index to the words that hold the bits too, from the place `at` on. It is the loop of `write`: there the bits are lent beside
-// the words that are written, and here they cannot be. The bits are the first len of the words from `first` on, and end
-// before that place. How many positions go to the overflow is not known before, and comes back.
-fn write_blocks_within(
-    buf: &mut [u64],
-    first: usize,
-    len: usize,
-    over_one: bool,
-    s: Sizes,
-    at: usize,
-) -> usize
-    requires { (first + words_for len ≤ at) × (at ≤ length buf.old) × Writable (positions over_one (take (words_for len) (drop first buf.old)) len) len (length (take (words_for len) (drop first buf.old))) s (length buf.old - at) }
-    ensures { (buf.new ≡ take at buf.old ++ (index_words (positions over_one (take (words_for len) (drop first buf.old)) len) ++ drop (length (index_words (positions over_one (take (words_for len) (drop first buf.old)) len))) (drop at buf.old))) × (result ≡ before (positions over_one (take (words_for len) (drop first buf.old)) len) (blocks (positions over_one (take (words_for len) (drop first buf.old)) len))) }
-{
-    let end = first + words_for(len);
-    let n = s.positions;
-    let blocks = s.entries;
-    let mut p = empty();
-    let mut from = Cursor { word: 0, before: 0 };
-    let mut over: usize = 0;
-    let mut j: usize = 0;
-    while j < blocks {
-        let size = block_size(n, j);
-        let next = load(&mut p.positions, &buf[first..end], over_one, n, j, from);
-        from = next;
-        p.count = size;
-        let more = spill(&p.positions, size);
-        p = flush(p, &mut *buf, at, s, j, over);
-        over += more;
-        j += 1;
+    for j in 0..s.entries {
+        from = load(&mut a, words, over_one, n, j, from);
+        over += flush(&a, block_size(n, j), &mut *out, s, j, over);
     }
     over
 }
 
-// The same for n positions. (Of the sizes the overflow, 0 here, is not looked at.)
+// Writes the index of n positions to the words that hold the bits too, from the place `at` on. The bits are the first len of the words from `first`
+// on, and end before that place. How many positions go to the overflow is not known before, and comes back.
 pub fn write_within(
     buf: &mut [u64],
     first: usize,
@@ -202,7 +153,9 @@ pub fn write_within(
     requires { (first + words_for len ≤ at) × (at ≤ length buf.old) × Writable (positions over_one (take (words_for len) (drop first buf.old)) len) len (length (take (words_for len) (drop first buf.old))) (sizes_by n 0) (length buf.old - at) }
     ensures { (buf.new ≡ take at buf.old ++ (index_words (positions over_one (take (words_for len) (drop first buf.old)) len) ++ drop (length (index_words (positions over_one (take (words_for len) (drop first buf.old)) len))) (drop at buf.old))) × (result ≡ before (positions over_one (take (words_for len) (drop first buf.old)) len) (blocks (positions over_one (take (words_for len) (drop first buf.old)) len))) }
 {
-    write_blocks_within(buf, first, len, over_one, sizes_by(n, 0), at)
+    let (front, index) = buf.split_at_mut(at);
+    let words = &front[first..first + words_for(len)];
+    write(words, len, over_one, sizes_by(n, 0), index)
 }
 
 // Whether the words are the index over the ones or the zeros of the bits, which has n positions: block by block, with one block's positions in
@@ -211,17 +164,14 @@ pub fn is_index(words: &[u64], len: usize, over_one: bool, n: usize, index: &[u6
     requires { (words_for len ≤ length words.now) × (len < 2 ^ 63) × (n ≡ count (bit_over over_one words.now) len) }
     ensures { Decides result (index.now ≡ index_words (positions over_one words.now len)) }
 {
-    let blocks = (n + (BLOCK_LEN - 1)) / BLOCK_LEN;
-    let lanes = (n + (SUBBLOCK_LEN - 1)) / SUBBLOCK_LEN;
-    let fixed = blocks + (lanes + 3) / 4;
+    let least = sizes_by(n, 0);
+    let fixed = total(least);
     if index.len() < fixed {
         return false;
     }
     let s = Sizes {
-        positions: n,
-        entries: blocks,
-        lanes,
         overflow: index.len() - fixed,
+        ..least
     };
     matches(words, len, over_one, s, index)
 }
@@ -232,20 +182,15 @@ fn matches(words: &[u64], len: usize, over_one: bool, s: Sizes, index: &[u64]) -
     ensures { Decides result (index.now ≡ index_words (positions over_one words.now len)) }
 {
     let n = s.positions;
-    let blocks = s.entries;
     let mut a = [0u64; 1024];
     let mut at = Cursor { word: 0, before: 0 };
     let mut over: usize = 0;
-    let mut j: usize = 0;
-    while j < blocks {
-        let size = block_size(n, j);
-        let next = load(&mut a, words, over_one, n, j, at);
-        at = next;
-        let Some(more) = compare(&a, size, index, s, j, over) else {
+    for j in 0..s.entries {
+        at = load(&mut a, words, over_one, n, j, at);
+        let Some(more) = compare(&a, block_size(n, j), index, s, j, over) else {
             return false;
         };
         over += more;
-        j += 1;
     }
     over == s.overflow
 }

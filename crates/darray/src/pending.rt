@@ -1,10 +1,10 @@
-// The pending positions of a block: those that its words need are stored, and a flush writes them to the index and empties them.
+// The pending positions of a block: those that its words need are stored, and a flush writes them to the index.
 ghost use Rattle.std.specs.Prelude.{◌≡◌, true, false, cond, ℕ, ◌+◌, ◌-◌, ◌*◌, ◌/◌, ◌^◌, ◌≤◌, ◌<◌, min, length, get_or, replicate};
 ghost use Rattle.broadword.specs.Bits.{bit};
 ghost use Rattle.broadword.specs.Places.{select};
 ghost use Rattle.bit_words.specs.Vector.{bit_over};
 ghost use Rattle.darray_positions.specs.Scan.{Position, Ahead, Inside, last_in_block};
-ghost use Rattle.darray.specs.Pending.{Sampled, Loadable, Loaded, LanesRise, block_wide, block_spill, block_lane, block_lane_word, put, flushed, Flushable, lanes_at, over_at, emptied, Decides, Reads, Matches, Comparing, Compares};
+ghost use Rattle.darray.specs.Pending.{Sampled, Loadable, Loaded, LanesRise, block_wide, block_spill, block_lane, block_lane_word, put, flushed, Flushable, lanes_at, over_at, Decides, Reads, Matches, Comparing, Compares};
 
 use crate::inner::Sizes;
 use bit_words::{WORD_LEN, word_over};
@@ -13,12 +13,8 @@ use darray_positions::scan::{
     BLOCK_LEN, Cursor, Hit, SUBBLOCK_LEN, block_size, cursor_at, find_near, is_far, is_wide,
 };
 
-// Positions, and how many of them are pending.
-#[derive(Clone, Copy)]
-pub struct Pending {
-    pub positions: [u64; 1024],
-    pub count: usize,
-}
+// Positions to a word of distances.
+const LANES_LEN: usize = 4 * SUBBLOCK_LEN;
 
 // The word without its lowest one.
 fn without_lowest(w: u64) -> u64
@@ -37,7 +33,7 @@ fn fill(a: &mut [u64; 1024], words: &[u64], over_one: bool, first: usize, k: usi
     let mut word = first / WORD_LEN;
     let mut left = (word_over(words, word, over_one) >> shift) << shift;
     let mut c: usize = 0;
-    while c < size {
+    while c < size { // no `for`: c moves on only where the word has a one left
         match lsb(left) {
             Some(bit) => {
                 a[c] = (word * WORD_LEN + bit) as u64;
@@ -65,19 +61,15 @@ fn sample(
     ensures { Sampled (bit_over over_one words.now) k size false a.new × Ahead (bit_over over_one words.now) result (k + (size - 1)) }
 {
     let mut at = from;
-    let mut i: usize = 0;
-    while i < size {
+    for i in (0..size).step_by(SUBBLOCK_LEN) {
         let h = find_near(words, over_one, at, k + i);
         a[i] = h.at;
-        let next = h.cursor;
-        at = next;
-        i += SUBBLOCK_LEN;
+        at = h.cursor;
     }
     let last = size - 1;
     let h = find_near(words, over_one, at, k + last);
     a[last] = h.at;
-    let next = h.cursor;
-    next
+    h.cursor
 }
 
 // Stores those positions of a block that its words need, where its end is near: every 32nd, and all of them if it overflows after all. Its first
@@ -138,23 +130,12 @@ pub fn load(
     load_from(a, words, over_one, h, k, block_size(n, block))
 }
 
-// None is pending.
-pub fn empty() -> Pending
-    ensures { (result.positions ≡ replicate 1024 0) × (result.count ≡ 0) }
-{
-    Pending {
-        positions: [0u64; 1024],
-        count: 0,
-    }
-}
-
 // Whether the block overflows.
 fn overflows(a: &[u64; 1024], n: usize) -> bool
     requires { (0 < n) × (n ≤ 1024) × LanesRise a.now n }
     ensures { result ≡ block_wide a.now n }
 {
-    let last = n - 1;
-    is_wide(a[0], a[last])
+    is_wide(a[0], a[n - 1])
 }
 
 // How many of its positions go to the overflow.
@@ -203,47 +184,31 @@ fn put_lanes(a: &[u64; 1024], n: usize, wide: bool, out: &mut [u64], at: usize)
     requires { (n ≤ 1024) × LanesRise a.now n × (wide ≡ block_wide a.now n) × (at + (n + 127) / 128 ≤ length out.old) }
     ensures { out.new ≡ put out.old at (block_lane_word a.now n) ((n + 127) / 128) }
 {
-    let words = (n + 127) / 128;
-    let mut t: usize = 0;
-    while t < words {
+    for t in 0..n.div_ceil(LANES_LEN) {
         out[at + t] = lane_word(a, n, wide, t);
-        t += 1;
     }
 }
 
-// Writes the first n positions.
-fn put_positions(a: &[u64; 1024], n: usize, out: &mut [u64], at: usize)
-    requires { (n ≤ 1024) × (at + n ≤ length out.old) }
-    ensures { out.new ≡ put out.old at (λ i. get_or a.now i 0) n }
+// Writes the block to the index whose sizes are s: its entry, its distances, and where it overflows its positions, with `over` overflow positions
+// before them. How many of its positions went to the overflow comes back.
+pub fn flush(
+    a: &[u64; 1024],
+    n: usize,
+    out: &mut [u64],
+    s: Sizes,
+    block: usize,
+    over: usize,
+) -> usize
+    requires { (s.lanes + 3 < 2 ^ 64) × Flushable a.now n block (lanes_at s block) over (over_at s over) (length out.old) }
+    ensures { (result ≡ block_spill a.now n) × (out.new ≡ flushed a.now n block (lanes_at s block) over (over_at s over) out.old) }
 {
-    let mut i: usize = 0;
-    while i < n {
-        out[at + i] = a[i];
-        i += 1;
-    }
-}
-
-// Writes the block to the index whose sizes are s, from the place `at` on: its entry, its distances, and where it overflows its positions, with
-// `over` overflow positions before them. The pending positions come back emptied.
-pub fn flush(p: Pending, out: &mut [u64], at: usize, s: Sizes, block: usize, over: usize) -> Pending
-    requires { (s.lanes + 3 < 2 ^ 64) × Flushable p.positions p.count (at + block) (lanes_at at s block) over (over_at at s over) (length out.old) }
-    ensures { (result ≡ emptied p) × (out.new ≡ flushed p.positions p.count (at + block) (lanes_at at s block) over (over_at at s over) out.old) }
-{
-    let n = p.count;
-    let lanes_start = at + s.entries;
-    let over_start = lanes_start + (s.lanes + 3) / 4;
-    let wide = overflows(&p.positions, n);
-    out[at + block] = entry(p.positions[0], wide, over);
-    put_lanes(&p.positions, n, wide, &mut *out, lanes_start + 8 * block);
-    put_positions(
-        &p.positions,
-        spill(&p.positions, n),
-        &mut *out,
-        over_start + over,
-    );
-    let mut q = p;
-    q.count = 0;
-    q
+    let wide = overflows(a, n);
+    out[block] = entry(a[0], wide, over);
+    put_lanes(a, n, wide, &mut *out, s.entries + 8 * block);
+    let more = spill(a, n);
+    let at = s.entries + s.lanes.div_ceil(4) + over;
+    out[at..at + more].copy_from_slice(&a[..more]);
+    more
 }
 
 // Whether the words at the place `at` are the distances.
@@ -251,28 +216,10 @@ fn lanes_match(a: &[u64; 1024], n: usize, wide: bool, index: &[u64], at: usize) 
     requires { (n ≤ 1024) × LanesRise a.now n × (wide ≡ block_wide a.now n) × (at + (n + 127) / 128 ≤ length index.now) }
     ensures { Decides result (Reads index.now at (block_lane_word a.now n) ((n + 127) / 128)) }
 {
-    let words = (n + 127) / 128;
-    let mut t: usize = 0;
-    while t < words {
+    for t in 0..n.div_ceil(LANES_LEN) {
         if index[at + t] != lane_word(a, n, wide, t) {
             return false;
         }
-        t += 1;
-    }
-    true
-}
-
-// Whether they are the first n positions.
-fn positions_match(a: &[u64; 1024], n: usize, index: &[u64], at: usize) -> bool
-    requires { (n ≤ 1024) × (at + n ≤ length index.now) }
-    ensures { Decides result (Reads index.now at (λ i. get_or a.now i 0) n) }
-{
-    let mut i: usize = 0;
-    while i < n {
-        if index[at + i] != a[i] {
-            return false;
-        }
-        i += 1;
     }
     true
 }
@@ -282,24 +229,23 @@ fn block_matches(
     a: &[u64; 1024],
     n: usize,
     index: &[u64],
-    at: usize,
     s: Sizes,
     block: usize,
     over: usize,
 ) -> bool
-    requires { (s.lanes + 3 < 2 ^ 64) × Flushable a.now n (at + block) (lanes_at at s block) over (over_at at s over) (length index.now) }
-    ensures { Decides result (Matches a.now n (at + block) (lanes_at at s block) over (over_at at s over) index.now) }
+    requires { (s.lanes + 3 < 2 ^ 64) × Flushable a.now n block (lanes_at s block) over (over_at s over) (length index.now) }
+    ensures { Decides result (Matches a.now n block (lanes_at s block) over (over_at s over) index.now) }
 {
-    let lanes_start = at + s.entries;
-    let over_start = lanes_start + (s.lanes + 3) / 4;
     let wide = overflows(a, n);
-    if index[at + block] != entry(a[0], wide, over) {
+    if index[block] != entry(a[0], wide, over) {
         return false;
     }
-    if !lanes_match(a, n, wide, index, lanes_start + 8 * block) {
+    if !lanes_match(a, n, wide, index, s.entries + 8 * block) {
         return false;
     }
-    positions_match(a, spill(a, n), index, over_start + over)
+    let more = spill(a, n);
+    let at = s.entries + s.lanes.div_ceil(4) + over;
+    index[at..at + more] == a[..more]
 }
 
 // Compares the words of a block, with `over` overflow positions before it, with those of the index.
@@ -318,8 +264,5 @@ pub fn compare(
     if s.overflow - over < more {
         return None;
     }
-    if block_matches(a, n, index, 0, s, block, over) {
-        return Some(more);
-    }
-    None
+    block_matches(a, n, index, s, block, over).then_some(more)
 }

@@ -4,7 +4,7 @@ ghost use Rattle.std.specs.Prelude.{◌≡◌, ◌+◌, ◌*◌, ◌/◌, ◌%�
 ghost use Rattle.std.specs.Int.Bits.{bit_and};
 ghost use Rattle.broadword.specs.Places.{select as select_bit};
 ghost use Rattle.bit_words.specs.Vector.{bit_over};
-ghost use Rattle.darray.specs.Select.{Indexed, signed_of, entry_of};
+ghost use Rattle.darray.specs.Select.{Indexed, entry_of};
 
 use bit_words::{find_within, words_for};
 use darray_positions::scan::{BLOCK_LEN, SUBBLOCK_LEN};
@@ -16,23 +16,12 @@ pub enum Entry {
     Overflow(usize),
 }
 
-// A two's complement word as a number.
-fn signed(w: u64) -> i64
-    ensures { result ≡ signed_of w }
-{
-    if w < 0x8000_0000_0000_0000 {
-        w as i64
-    } else {
-        -1 - ((!w) as i64)
-    }
-}
-
 // A negative entry e points at the overflow place -e - 1.
 fn read_entry(w: u64) -> Entry
     requires { w ≡ 2 ^ 63 → ⊥ }
     ensures { result ≡ entry_of w }
 {
-    let e = signed(w);
+    let e = w.cast_signed();
     if e < 0 {
         Entry::Overflow((-e - 1) as usize)
     } else {
@@ -61,11 +50,11 @@ pub fn select_within(
     requires { Indexed words.now len over_one index.now positions × (k < positions) }
     ensures { select_bit (bit_over over_one words.now) len k ≡ Some result }
 {
-    let entries = (positions + 1023) / BLOCK_LEN;
+    let entries = positions.div_ceil(BLOCK_LEN);
     let block = k / BLOCK_LEN;
     match read_entry(index[block]) {
         Entry::Overflow(first) => {
-            let lane_words = ((positions + 31) / SUBBLOCK_LEN + 3) / 4;
+            let lane_words = positions.div_ceil(SUBBLOCK_LEN).div_ceil(4);
             let at = entries + lane_words + first + k % BLOCK_LEN;
             index[at] as usize
         }

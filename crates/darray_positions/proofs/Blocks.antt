@@ -69,6 +69,12 @@ module _ (b : Bool) (ws : List ℕ) (len n : ℕ) (e : n ≡ count (bit_over b w
     unfolding spill
     spill_is = ap₂ (λ (w : Bool) (z : ℕ). cond w z 0) wide_is size_is
 
+    -- a block more spills
+    pub before_more : (o k z : ℕ) → o ≡ before (positions b ws len) j → z ≡ min 1024 (n - 1024 * j) → k ≡ cond (leb 65536 (s.last - s.first)) z 0 → o + k ≡ before (positions b ws len) (j + 1)
+    before_more o k z p q r =
+        ap₂ (λ (x y : ℕ). x + y) p (r ∙ ap (λ (y : ℕ). cond (leb 65536 (s.last - s.first)) y 0) q ∙ spill_is)
+        ∙ sym (ap (before (positions b ws len)) (add-one j) ∙ index.before_next (positions b ws len) j)
+
 -- ---- a full block, by its ends
 
 module _ (b : Bool) (ws : List ℕ) (len j : ℕ) (h : 1024 * j + 1023 < count (bit_over b ws) len) (first last : ℕ) (p : Position (bit_over b ws) (1024 * j) first) (q : Position (bit_over b ws) (1024 * j + 1023) last) (c : Cursor) (a : Ahead (bit_over b ws) c (1024 * j + 1023)) where

@@ -1,5 +1,5 @@
 -- Counting and seeking the positions of a bit vector word by word. Assumes nothing.
-use Rattle.std.specs.Prelude.{Some, None}
+use Rattle.std.specs.Prelude.{Some}
 use mathlib.Core.Path.{◌≡◌, refl, sym, ap, ap₂, ◌∙◌, subst}
 use mathlib.Core.List.{List}
 use mathlib.Core.Bool.{Bool}
@@ -10,8 +10,8 @@ use lib.Pow.{pow_pos, pow_mono}
 use lib.ListN.{length, get_or}
 use Rattle.broadword.specs.Bits.{bit, count, ones}
 use Rattle.broadword.specs.Places.{select}
-use Rattle.broadword.proofs.Count.{bit_le, bit-above, bit-mod, count_add, count_le, count_mono, count_same, count_zero}
-use Rattle.broadword.proofs.Find.{selected, select_at, select_some}
+use Rattle.broadword.proofs.Count.{bit-above, bit-mod, count_add, count_le, count_mono, count_same, count_zero}
+use Rattle.broadword.proofs.Find.{selected}
 use Rattle.bit_words.specs.Vector.{bit_over, word_over}
 use Rattle.bit_words.proofs.Runs.{Fit, bit_over_le, bit_over-word, count_word, count_next}
 use Rattle.darray_positions.specs.declared.scan.Cursor.{Cursor}
@@ -58,14 +58,6 @@ module _ (b : Bool) (ws : List ℕ) (fit : Fit ws) (c : Cursor) (k : ℕ) (a : A
         one = bit_over-word b ws fit c.word s l ∙ r.one;
         before = count_word f (λ i. word_over b (get_or ws i 0)) (bit_over-word b ws fit) c.word s (omega arith) ∙ omega (arith, r.before, a.counted, a.to_come);
       }
-
-  pub hit_some : k < c.before + ones (word_over b (get_or ws c.word 0)) 64 → None ≡ select (bit (word_over b (get_or ws c.word 0))) 64 (k - c.before) → ⊥
-  hit_some h e =
-      let w : ℕ = word_over b (get_or ws c.word 0) in
-      let s = select_some (bit w) 64 (k - c.before) (bit_le w) (omega (arith, a.to_come)) in
-      let g = select_at (bit w) 64 (k - c.before) s.0 s.1.within s.1.one s.1.before in
-      let z : ◌≡◌ {A = ℕ} 0 1 = cc in
-      omega arith
 
 -- a position that is inside lies below 2^63
 pub position_lt : (f : ℕ → ℕ) (m k i : ℕ) → Inside f m k → Position f k i → i < 2 ^ 63

@@ -5,8 +5,8 @@ ghost use Rattle.broadword.specs.Bits.{count, ones};
 ghost use Rattle.bit_words.specs.Vector.{words_for, bit_over, word_over};
 ghost use Rattle.darray_positions.specs.Scan.{Position, last_in_block, Ahead, Inside, Ranging, Reaches, Hits, Spans, FullBlocks};
 
-use bit_words::{WORD_LEN, low_bits, word_over};
-use broadword::{popcount, select_in_word};
+use bit_words::{WORD_LEN, count_words, low_bits, word_over};
+use broadword::{popcount, select_in_word_within};
 
 // Positions in a block.
 pub const BLOCK_LEN: usize = 1024;
@@ -69,28 +69,7 @@ pub fn count_positions(words: &[u64], len: usize, over_one: bool) -> usize
     requires { words_for len ≤ length words.now }
     ensures { result ≡ count (bit_over over_one words.now) len }
 {
-    let whole = len / WORD_LEN;
-    let mut n: usize = 0;
-    let mut i: usize = 0;
-    while i < whole {
-        n += popcount(word_over(words, i, over_one));
-        i += 1;
-    }
-    n + tail_positions(words, len, over_one)
-}
-
-// The number of positions in the eight words from the word i on.
-fn count_eight(words: &[u64], i: usize, over_one: bool) -> usize
-    requires { i + 8 ≤ length words.now }
-    ensures { count (bit_over over_one words.now) (i * 64) + result ≡ count (bit_over over_one words.now) ((i + 8) * 64) }
-{
-    let mut n: usize = 0;
-    let mut j: usize = 0;
-    while j < 8 {
-        n += popcount(word_over(words, i + j, over_one));
-        j += 1;
-    }
-    n
+    count_words(words, 0, len / WORD_LEN, over_one) + tail_positions(words, len, over_one)
 }
 
 // A cursor less than eight words before the word of the position with the number k, or less than eight before the word `end`.
@@ -98,17 +77,19 @@ fn leap(words: &[u64], over_one: bool, from: Cursor, k: usize, end: usize) -> Cu
     requires { Ahead (bit_over over_one words.now) from k × Ranging from end (length words.now) }
     ensures { Ahead (bit_over over_one words.now) result k × (from.word ≤ result.word) × (result.word ≤ end) }
 {
-    let mut word = from.word;
+    let whole = end - (end - from.word) % 8;
     let mut before = from.before;
-    while 8 <= end - word {
-        let n = count_eight(words, word, over_one);
+    for word in (from.word..whole).step_by(8) {
+        let n = count_words(words, word, word + 8, over_one);
         if k - before < n {
-            break;
+            return Cursor { word, before };
         }
         before += n;
-        word += 8;
     }
-    Cursor { word, before }
+    Cursor {
+        word: whole,
+        before,
+    }
 }
 
 // Whether the position with the number k lies `FAR` words past the cursor or farther. Where it does not say so, nothing is promised: it only picks the
@@ -130,17 +111,15 @@ fn advance(words: &[u64], over_one: bool, from: Cursor, k: usize, end: usize) ->
     requires { Ahead (bit_over over_one words.now) from k × Ranging from end (length words.now) }
     ensures { Reaches over_one words.now from k end result }
 {
-    let mut word = from.word;
     let mut before = from.before;
-    while word < end {
+    for word in from.word..end {
         let n = popcount(word_over(words, word, over_one));
         if k - before < n {
-            break;
+            return Cursor { word, before };
         }
         before += n;
-        word += 1;
     }
-    Cursor { word, before }
+    Cursor { word: end, before }
 }
 
 // The same, eight words at a time: for positions that are far.
@@ -157,10 +136,7 @@ fn place_at(words: &[u64], over_one: bool, c: Cursor, k: usize) -> u64
     ensures { Position (bit_over over_one words.now) k result }
 {
     let w = word_over(words, c.word, over_one);
-    match select_in_word(w, k - c.before) {
-        Some(s) => (c.word * WORD_LEN + s) as u64,
-        None => 0,
-    }
+    (c.word * WORD_LEN + select_in_word_within(w, k - c.before)) as u64
 }
 
 // The position with the number k, where it is near.
@@ -180,11 +156,8 @@ fn find(words: &[u64], over_one: bool, from: Cursor, k: usize) -> Hit
     requires { Ahead (bit_over over_one words.now) from k × Inside (bit_over over_one words.now) (length words.now) k }
     ensures { Hits (bit_over over_one words.now) k result }
 {
-    let cursor = seek(words, over_one, from, k, words.len());
-    Hit {
-        at: place_at(words, over_one, cursor, k),
-        cursor,
-    }
+    let near = leap(words, over_one, from, k, words.len());
+    find_near(words, over_one, near, k)
 }
 
 // A cursor at the word of the position with the number k, which stands at `at`.
@@ -205,8 +178,7 @@ pub fn block_size(n: usize, block: usize) -> usize
     requires { 1024 * block ≤ n }
     ensures { result ≡ min 1024 (n - 1024 * block) }
 {
-    let left = n - BLOCK_LEN * block;
-    if left < BLOCK_LEN { left } else { BLOCK_LEN }
+    BLOCK_LEN.min(n - BLOCK_LEN * block)
 }
 
 // Whether a block with these ends overflows.
@@ -233,11 +205,10 @@ pub fn ends(words: &[u64], over_one: bool, n: usize, block: usize, from: Cursor)
     let k = BLOCK_LEN * block;
     let a = find(words, over_one, from, k);
     let b = find(words, over_one, a.cursor, k + (block_size(n, block) - 1));
-    let next = b.cursor;
     Span {
         first: a.at,
         last: b.at,
-        next,
+        next: b.cursor,
     }
 }
 
@@ -249,7 +220,7 @@ pub fn full_blocks(words: &[u64], len: usize, over_one: bool) -> Full
     let end = len / WORD_LEN;
     let mut overflow: usize = 0;
     let mut from = Cursor { word: 0, before: 0 };
-    let mut j: usize = 0;
+    let mut j: usize = 0; // no `for`: how many blocks are full is what the loop finds
     loop {
         let k = BLOCK_LEN * j;
         let first = seek(words, over_one, from, k, end);

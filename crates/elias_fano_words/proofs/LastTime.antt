@@ -1,13 +1,14 @@
 -- The last one of the high words, and the time that it stands for. Assumes nothing.
-use Rattle.std.specs.Prelude.{Some, None, Option}
-use mathlib.Core.Path.{◌≡◌, sym, ap, ap₂, ◌∙◌, subst, subst⁻¹}
+use Rattle.std.specs.Prelude.{Some, None, Option, IsSome}
+use Rattle.std.specs.Bool.{then_some}
+use mathlib.Core.Path.{◌≡◌, refl, sym, ap, ap₂, ◌∙◌, subst, subst⁻¹}
 use mathlib.Core.List.{List}
-use mathlib.Core.Bool.{cond}
+use mathlib.Core.Bool.{Bool, true, false, cond}
 use Prim.Native.Nat.{ℕ, suc, ◌+◌, ◌-◌, ◌*◌, ◌/◌, ◌%◌, ◌^◌, ◌≤◌, ◌<◌}
 use native.Mathlib.Nat.{lt_of_not-le, lt_of_le_of_lt, mul-le-mul_right, mod-lt, mod-eq_of_lt}
 use native.Mathlib.Decide.{dec_lt}
 use native.Mathlib.Omega.{arith}
-use borrow.Author.Tests.{lt-ltb, le-ltb}
+use borrow.Author.Tests.{le-ltb}
 use lib.Arith.{digits_lt}
 use lib.Dec.{ltb}
 use lib.ListN.{length, get_or}
@@ -53,10 +54,11 @@ module _ (ws : List ℕ) (fit : Fit ws) (some : (p : ℕ) × LastOne ws p) (used
   pub last_lt : (b : ℕ) → Some b ≡ last (bit (get_or ws i 0)) 64 → b < 64
   last_lt b e = (last_is (bit (get_or ws i 0)) 64 b (sym e)).within
 
-  pub last_some : None ≡ last (bit (get_or ws i 0)) 64 → ⊥
-  last_some e =
-      end.some i (omega (arith, used_pos)) (no_bits (get_or ws i 0) (fit i) (λ j l.
-      not_one (bit (get_or ws i 0) j) (bit_le (get_or ws i 0) j) (last_nothing (bit (get_or ws i 0)) 64 (sym e) j l)))
+  pub last_there : (o : Option ℕ) → o ≡ last (bit (get_or ws i 0)) 64 → IsSome o
+  last_there (Some b) e = refl
+  last_there None e =
+      absurd (end.some i (omega (arith, used_pos)) (no_bits (get_or ws i 0) (fit i) (λ j l.
+      not_one (bit (get_or ws i 0) j) (bit_le (get_or ws i 0) j) (last_nothing (bit (get_or ws i 0)) 64 (sym e) j l))))
 
 -- there is one last one
 same-last : (ws : List ℕ) (p q : ℕ) → LastOne ws p → LastOne ws q → p ≡ q
@@ -115,10 +117,9 @@ module _ (high low : List ℕ) (u l k r : ℕ) (hu : u < 2 ^ 64) (narrow : l < 6
       pub time_fits : ((r - k) * 2 ^ l) % 2 ^ 64 + b < 2 ^ 64
       time_fits = subst⁻¹ (λ (n : ℕ). n < 2 ^ 64) time_is (time_lt (low_bits l low k) (low_bits_lt l low k))
 
-      pub time_below : ((r - k) * 2 ^ l) % 2 ^ 64 + b < u → (p : ℕ) → LastOne high p → Some (((r - k) * 2 ^ l) % 2 ^ 64 + b) ≡ below u (time_at l low k p)
-      time_below g =
-          any (Some (((r - k) * 2 ^ l) % 2 ^ 64 + b))
-          (ap Some time_is ∙ ap (λ b. cond b (Some (time_at l low k r)) None) (sym (lt-ltb (time_at l low k r) u (subst (λ (n : ℕ). n < u) time_is g))))
-
-      pub time_not : u ≤ ((r - k) * 2 ^ l) % 2 ^ 64 + b → (p : ℕ) → LastOne high p → None ≡ below u (time_at l low k p)
-      time_not g = any None (ap (λ b. cond b (Some (time_at l low k r)) None) (sym (le-ltb (time_at l low k r) u (subst (λ (n : ℕ). u ≤ n) time_is g))))
+      pub time_if : (o : Option ℕ) → o ≡ then_some (ltb (((r - k) * 2 ^ l) % 2 ^ 64 + b) u) (((r - k) * 2 ^ l) % 2 ^ 64 + b) → (p : ℕ) → LastOne high p → o ≡ below u (time_at l low k p)
+      time_if o e = any o (e ∙ ap (λ (t : ℕ). then_some (ltb t u) t) time_is ∙ by (ltb (time_at l low k r) u) (time_at l low k r))
+        where
+          by : (c : Bool) (t : ℕ) → then_some c t ≡ cond c (Some t) None
+          by true t = refl
+          by false t = refl

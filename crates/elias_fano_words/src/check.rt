@@ -36,7 +36,7 @@ pub fn bits_at(words: &[u64], pos: usize) -> u64
 {
     let at = pos / WORD_LEN;
     let shift = pos % WORD_LEN;
-    let next = if at + 1 < words.len() { at + 1 } else { at };
+    let next = (at + 1).min(words.len() - 1);
     (words[at] >> shift) | ((words[next] << 1) << (WORD_LEN - 1 - shift))
 }
 
@@ -84,7 +84,7 @@ fn word_rises(low: &[u64], l: usize, w: u64, marks: u64, before: usize, strict: 
     ensures { Decides result (Each marks (λ j. Rises strict l low.now (before + ones w j))) }
 {
     let mut left = marks;
-    while left != 0 {
+    while left != 0 { // no `for`: the marks are bits of a word, not items
         let lowest = left & (!left + 1);
         if !rises(low, l, before + popcount(w & (lowest - 1)), strict) {
             return false;
@@ -99,8 +99,7 @@ fn next_word(words: &[u64], i: usize) -> u64
     requires { i < length words.now }
     ensures { result ≡ get_or words.now (i + 1) 0 }
 {
-    let next = i + 1;
-    if next < words.len() { words[next] } else { 0 }
+    words.get(i + 1).copied().unwrap_or(0)
 }
 
 // Whether the low bits of neighbouring ones of the high words rise so. A place is marked if it and the next one are ones.
@@ -112,15 +111,12 @@ fn in_order(high: &[u64], low: &[u64], l: usize, strict: bool) -> bool
         return true;
     }
     let mut before: usize = 0;
-    let mut i: usize = 0;
-    while i < high.len() {
-        let w = high[i];
-        let marks = w & ((w >> 1) | (next_word(high, i) << 63));
-        if !word_rises(low, l, w, marks, before, strict) {
+    for (i, w) in high.iter().enumerate() {
+        let marks = *w & ((*w >> 1) | (next_word(high, i) << 63));
+        if !word_rises(low, l, *w, marks, before, strict) {
             return false;
         }
-        before += popcount(w);
-        i += 1;
+        before += popcount(*w);
     }
     true
 }
@@ -131,10 +127,7 @@ fn last_one(words: &[u64]) -> usize
     ensures { LastOne words.now result }
 {
     let i = last_used(words, words.len()) - 1;
-    match msb(words[i]) {
-        Some(bit) => i * WORD_LEN + bit,
-        None => 0,
-    }
+    i * WORD_LEN + msb(words[i]).unwrap()
 }
 
 // The last of m times, if it is below the universe. Its high bits are compared first: above those of the universe, they could leave the
@@ -149,11 +142,7 @@ fn last_time(high: &[u64], low: &[u64], universe: u64, l: usize, m: usize) -> Op
         return None;
     }
     let time = (upper << l) + low_at(low, l, k);
-    if time < universe {
-        Some(time)
-    } else {
-        None
-    }
+    (time < universe).then_some(time)
 }
 
 // The last of num_pushed times that the high words and the low words after them hold, if they hold nothing else and, with `strict`, none

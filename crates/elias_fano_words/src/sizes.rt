@@ -5,6 +5,7 @@ ghost use Rattle.elias_fano_words.specs.Sizes.{low_len, sizes_of, index_len, ima
 
 use bit_words::words_for;
 use broadword::msb;
+use darray_positions::scan::{BLOCK_LEN, SUBBLOCK_LEN};
 
 // The most values that a record may declare.
 pub const MAX_VALS: u64 = 16_777_216;
@@ -51,7 +52,7 @@ pub fn index_len(positions: usize, overflow: usize) -> usize
     requires { (positions < 2 ^ 32) × (overflow < 2 ^ 62) }
     ensures { result ≡ index_len positions overflow }
 {
-    (positions + 1023) / 1024 + ((positions + 31) / 32 + 3) / 4 + overflow
+    positions.div_ceil(BLOCK_LEN) + positions.div_ceil(SUBBLOCK_LEN).div_ceil(4) + overflow
 }
 
 // The same of an index that is there with `rank` only.
@@ -60,9 +61,10 @@ pub fn index_len_if(rank: bool, positions: usize, overflow: usize) -> usize
     ensures { result ≡ cond rank (index_len positions overflow) 0 }
 {
     if rank {
-        return index_len(positions, overflow);
+        index_len(positions, overflow)
+    } else {
+        0
     }
-    0
 }
 
 // How many words the image of m values has, of which so many ones and zeros are in the overflow lists.

@@ -6,10 +6,8 @@ use Rattle.errors.proofs.Passing as passing
 use mathlib.Core.Path.{sym, ap, ap₂, ◌∙◌}
 use lib.Seq.{length-take-le}
 use Rattle.errors.specs.Answer.{leaves, of_option, of_optional}
-use Rattle.darray.specs.Queries.{of_measured}
 use Rattle.darray.proofs.Built as made
 use Rattle.darray.proofs.select_built.Goals as goal
-
 
 pub returns-in_err-n : goal.returns-in_err-n
 returns-in_err-n c = ap (λ (r : Result (Option ℕ) Refusal). leaves (of_optional r) c.build.new.out) (passing.refused_so _ _ c.from_residual.ensures.1) ∙ made.refused_so c.args.words.now c.args.len c.args.over_one c.args.out.now _ c.args.k c.build.new.out c.in_err-n.ensures

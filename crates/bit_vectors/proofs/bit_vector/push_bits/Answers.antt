@@ -1,5 +1,9 @@
 -- `bit_vectors::bit_vector::push_bits` meets its contract.
 -- Assumes nothing.
+use Rattle.std.specs.Prelude.{Result, ⊤}
+use Rattle.errors.specs.declared.Refusal.{Refusal}
+use Rattle.errors.specs.Answer.{leaves, of_done, of_result}
+use Rattle.bit_words.proofs.Valid.{refused_bits}
 use mathlib.Core.Path.{sym, ap, ◌∙◌, subst}
 use Prim.Native.Nat.{ℕ, ◌+◌, ◌^◌, ◌<◌}
 use native.Mathlib.Nat.{mod-lt}
@@ -13,24 +17,24 @@ use Rattle.bit_words.proofs.Packed.{push_nothing}
 use Rattle.bit_words.proofs.Valid.{valid}
 use Rattle.bit_vectors.proofs.bit_vector.push_bits.Goals as goal
 
-pub returns-then-is_invalid : goal.returns-then-is_invalid
-returns-then-is_invalid c = sym (cases.push_13 _ _ _ _ (sym c.is_invalid.ensures ∙ c.if-is_invalid.true))
+pub returns-in_err-checked : goal.returns-in_err-checked
+returns-in_err-checked c = ap (λ (r : Result ℕ Refusal). leaves (of_result r) c.args.words.now) (refused_bits _ _ c.from_residual.ensures.1 c.in_err-checked.ensures.0) ∙ sym (cases.push_13 _ _ _ _ c.in_err-checked.ensures.1)
 
 pub returns-then-width-gt-WORD_LEN : goal.returns-then-width-gt-WORD_LEN
-returns-then-width-gt-WORD_LEN c = sym (cases.push_14 _ _ _ _ (sym c.is_invalid.ensures ∙ c.if-is_invalid.false) c.if-width-gt-WORD_LEN.true)
+returns-then-width-gt-WORD_LEN c = sym (cases.push_14 _ _ _ _ c.in_ok-checked.ensures c.if-width-gt-WORD_LEN.true)
 
 pub returns-then-len-width : goal.returns-then-len-width
-returns-then-len-width c = let l = c.ranges.len.fits in sym (cases.push_15_long _ _ _ _ (sym c.is_invalid.ensures ∙ c.if-is_invalid.false) c.if-width-gt-WORD_LEN.false (omega arith))
+returns-then-len-width c = let l = c.ranges.len.fits in sym (cases.push_15_long _ _ _ _ c.in_ok-checked.ensures c.if-width-gt-WORD_LEN.false (omega arith))
 
 pub returns-then-words-used : goal.returns-then-words-used
-returns-then-words-used c = let e = c.words_for-used.ensures in sym (cases.push_15_full _ _ _ _ (sym c.is_invalid.ensures ∙ c.if-is_invalid.false) c.if-width-gt-WORD_LEN.false (omega arith) (omega arith))
+returns-then-words-used c = let e = c.words_for-used.ensures in sym (cases.push_15_full _ _ _ _ c.in_ok-checked.ensures c.if-width-gt-WORD_LEN.false (omega arith) (omega arith))
 
 pub returns-then-width-eq0 : goal.returns-then-width-eq0
-returns-then-width-eq0 c = let v = valid c.args.words.now c.args.len (sym c.is_invalid.ensures ∙ c.if-is_invalid.false) in let e = c.words_for-used.ensures in let l = c.ranges.len.fits in sym (cases.push_ok _ _ _ _ (sym c.is_invalid.ensures ∙ c.if-is_invalid.false) c.if-width-gt-WORD_LEN.false (omega arith) (omega arith) ∙ push_nothing c.args.words.now c.args.len c.args.bits c.args.width (λ i. (c.slice_known-1.given i).fits) v.room c.if-width-eq0.true)
+returns-then-width-eq0 c = let v = valid c.args.words.now c.args.len c.in_ok-checked.ensures in let e = c.words_for-used.ensures in let l = c.ranges.len.fits in sym (cases.push_ok _ _ _ _ c.in_ok-checked.ensures c.if-width-gt-WORD_LEN.false (omega arith) (omega arith) ∙ push_nothing c.args.words.now c.args.len c.args.bits c.args.width (λ i. (c.slice_known-1.given i).fits) v.room c.if-width-eq0.true)
 
 pub append-requires : goal.append-requires
 append-requires c =
-    let v = valid c.args.words.now c.args.len (sym c.is_invalid.ensures ∙ c.if-is_invalid.false) in
+    let v = valid c.args.words.now c.args.len c.in_ok-checked.ensures in
     let e = c.words_for-used.ensures in
     record {
       some = omega arith;
@@ -41,4 +45,4 @@ append-requires c =
     }
 
 pub returns : goal.returns
-returns c = let e = c.words_for-used.ensures in let l = c.ranges.len.fits in ap (λ (l : List ℕ). leaves (value (c.args.len + c.args.width)) l) (c.append.ensures ∙ ap (λ (x : ℕ). appended c.args.words.now c.args.len x c.args.width) c.low_bits.ensures) ∙ sym (cases.push_ok _ _ _ _ (sym c.is_invalid.ensures ∙ c.if-is_invalid.false) c.if-width-gt-WORD_LEN.false (omega arith) (omega arith))
+returns c = let e = c.words_for-used.ensures in let l = c.ranges.len.fits in ap (λ (l : List ℕ). leaves (value (c.args.len + c.args.width)) l) (c.append.ensures ∙ ap (λ (x : ℕ). appended c.args.words.now c.args.len x c.args.width) c.low_bits.ensures) ∙ sym (cases.push_ok _ _ _ _ c.in_ok-checked.ensures c.if-width-gt-WORD_LEN.false (omega arith) (omega arith))

@@ -1,11 +1,7 @@
 -- `darray::inner::matches` meets its contract: the invariant says that the words of the blocks before j are those of the index.
 -- Assumes nothing.
-use Prim.Native.Nat.{◌-◌, ◌≤◌}
 use Rattle.darray.proofs.Comparing.{BlocksCompared}
 use Rattle.darray.proofs.inner.matches.Given as goal
 
 abbrev pub invariant-loop-j : goal.invariant-loop-j
-invariant-loop-j l = (l.j ≤ l.blocks) × BlocksCompared l.over_one l.words l.len l.s l.index l.a l.at l.over l.j
-
-abbrev pub decreases-loop-j : goal.decreases-loop-j
-decreases-loop-j l = l.blocks - l.j
+invariant-loop-j l = BlocksCompared l.over_one l.words l.len l.s l.index l.a l.at l.over l.j

@@ -1,7 +1,6 @@
 -- `darray::inner::overflow_of` meets its contract: the invariant says that `overflow` counts what the blocks before j spill.
 -- Assumes nothing.
-use mathlib.Core.Path.{◌≡◌}
-use Prim.Native.Nat.{◌-◌, ◌*◌, ◌≤◌}
+use Rattle.std.proofs.Common.{◌≡◌, ◌*◌}
 use Rattle.bit_words.specs.Vector.{bit_over}
 use Rattle.darray_positions.specs.Positions.{positions}
 use Rattle.darray_positions.specs.Index.{before}
@@ -10,7 +9,4 @@ use Rattle.darray.proofs.inner.overflow_of.Given as goal
 
 abbrev pub invariant-loop-j : goal.invariant-loop-j
 invariant-loop-j l =
-    (l.j ≤ l.blocks) × (l.overflow ≡ before (positions l.over_one l.words l.len) l.j) × Ahead (bit_over l.over_one l.words) l.at (1024 * l.j)
-
-abbrev pub decreases-loop-j : goal.decreases-loop-j
-decreases-loop-j l = l.blocks - l.j
+    (l.overflow ≡ before (positions l.over_one l.words l.len) l.j) × Ahead (bit_over l.over_one l.words) l.at (1024 * l.j)

@@ -18,11 +18,6 @@ overflow_add-n c =
     let few : c.full_blocks-full.result.positions + c.tail_positions.result < 2 ^ 63 = omega (arith, all, scan.count_few c.args.over_one c.args.words.now c.args.len, c.requires.1) in
     omega (arith, few)
 
-pub overflow_of-requires : goal.overflow_of-requires
-overflow_of-requires c =
-    let all : c.full_blocks-full.result.positions + c.tail_positions.result ≡ count (bit_over c.args.over_one c.args.words.now) c.args.len = ap (λ (n : ℕ). n + c.tail_positions.result) c.full_blocks-full.ensures.counted ∙ c.tail_positions.ensures in
-    (c.requires.0, c.requires.1, all, c.full_blocks-full.ensures)
-
 pub sizes_by-requires : goal.sizes_by-requires
 sizes_by-requires c =
     let all : c.full_blocks-full.result.positions + c.tail_positions.result ≡ count (bit_over c.args.over_one c.args.words.now) c.args.len = ap (λ (n : ℕ). n + c.tail_positions.result) c.full_blocks-full.ensures.counted ∙ c.tail_positions.ensures in

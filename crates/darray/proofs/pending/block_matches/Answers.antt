@@ -1,35 +1,33 @@
 -- `darray::pending::block_matches` meets its contract.
 -- Assumes nothing.
-use borrow.Author.Tests.{not-true, not-false}
-use mathlib.Core.Path.{sym, ◌∙◌, subst}
-use native.Mathlib.Omega.{arith}
-use lib.ListN.{get_or}
-use Rattle.darray.specs.Pending.{Reads, over_at}
+use Rattle.std.proofs.Common.{arith, ℕ, ◌≡◌, ◌+◌, ◌≤◌, ◌∙◌, sym, refl, subst, get_or, length}
+use Rattle.darray.specs.Pending.{Reads, block_spill, over_at}
 use Rattle.darray.proofs.Flush as flush
 use Rattle.darray.proofs.Matching as matching
 use Rattle.darray.proofs.pending.block_matches.Goals as goal
 
-pub returns-then-index-at : goal.returns-then-index-at
-returns-then-index-at c =
+pub returns-then-index-block : goal.returns-then-index-block
+returns-then-index-block c =
     let a = c.args in
-    matching.it_is_not (λ m. c.if-index-at.true (m.entry ∙ sym (flush.entry_is a.a.now a.n a.over c.entry.result c.overflows-wide.result c.overflows-wide.ensures c.entry.ensures)))
+    matching.it_is_not (λ m. c.if-index-block.true (m.entry ∙ sym (flush.entry_is a.a.now a.n a.over c.entry.result c.overflows-wide.result c.overflows-wide.ensures c.entry.ensures)))
 
-pub returns-then-not-lanes_match : goal.returns-then-not-lanes_match
-returns-then-not-lanes_match c = matching.it_is_not (λ m. c.lanes_match.ensures.no (not-true _ c.if-not-lanes_match.true-raw) m.lane_words)
-
-pub positions_match-requires : goal.positions_match-requires
-positions_match-requires c =
-    let a = c.args in
-    let p = c.requires.1 in
-    (omega (arith, c.spill.ensures, flush.spill_few a.a.now a.n, p.few), omega (arith, c.spill.ensures, p.over_room))
+pub shared_ref_as_front-eq : goal.shared_ref_as_front-eq
+shared_ref_as_front-eq c = omega (arith, c.spill-more.ensures, flush.spill_few c.args.a.now c.args.n, c.requires.1.few)
 
 pub returns : goal.returns
 returns c =
     let a = c.args in
-    matching.decides_by {A = Reads a.index.now (over_at a.at a.s a.over) (λ i. get_or a.a.now i 0) c.spill.result} c.positions_match.result c.positions_match.ensures
+    let p = c.requires.1 in
+    let at : ℕ = a.s.entries + c.div_ceil.result + a.over in
+    let n : ℕ = c.spill-more.result in
+    let few : n ≤ 1024 = omega (arith, c.spill-more.ensures, flush.spill_few a.a.now a.n, p.few) in
+    let is : at ≡ over_at a.s a.over = omega arith in
+    let room : at + n ≤ length a.index.now = omega (arith, c.spill-more.ensures, p.over_room) in
+    let long : n ≤ length a.a.now = omega arith in
+    matching.decides_by {A = Reads a.index.now at (λ i. get_or a.a.now i 0) n} c.eq.result (matching.reads_is a.index.now at (at + n) a.a.now n c.eq.result refl room long c.eq.ensures)
     (λ r. record {
-      entry = c.if-index-at.false ∙ flush.entry_is a.a.now a.n a.over c.entry.result c.overflows-wide.result c.overflows-wide.ensures c.entry.ensures;
-      lane_words = c.lanes_match.ensures.yes (not-false _ c.if-not-lanes_match.false-raw);
-      spilled = subst (Reads a.index.now (over_at a.at a.s a.over) (λ i. get_or a.a.now i 0)) c.spill.ensures r;
+      entry = c.if-index-block.false ∙ flush.entry_is a.a.now a.n a.over c.entry.result c.overflows-wide.result c.overflows-wide.ensures c.entry.ensures;
+      lane_words = c.lanes_match.ensures.yes c.if-not-lanes_match.false;
+      spilled = subst (λ (k : ℕ). Reads a.index.now k (λ i. get_or a.a.now i 0) (block_spill a.a.now a.n)) is (subst (Reads a.index.now at (λ i. get_or a.a.now i 0)) c.spill-more.ensures r);
     })
-    (λ m. subst (Reads a.index.now (over_at a.at a.s a.over) (λ i. get_or a.a.now i 0)) (sym c.spill.ensures) m.spilled)
+    (λ m. subst (Reads a.index.now at (λ i. get_or a.a.now i 0)) (sym c.spill-more.ensures) (subst (λ (k : ℕ). Reads a.index.now k (λ i. get_or a.a.now i 0) (block_spill a.a.now a.n)) (sym is) m.spilled))

@@ -4,7 +4,7 @@ use Rattle.std.specs.Prelude.{Some}
 use borrow.Author.Rules.{rules}
 use borrow.Author.Count.{below_more}
 use mathlib.Core.Path.{◌≡◌, sym, ◌∙◌, subst}
-use Prim.Native.Nat.{ℕ, ◌+◌, ◌-◌, ◌*◌, ◌^◌, ◌<◌}
+use Prim.Native.Nat.{ℕ, ◌+◌, ◌*◌, ◌^◌, ◌<◌}
 use native.Mathlib.Nat.{not-suc-le-zero}
 use native.Mathlib.Omega.{arith}
 use lib.ListN.{length, get_or, set, length-set}
@@ -55,9 +55,6 @@ pub without_lowest-left-requires : goal.without_lowest-left-requires
 without_lowest-left-requires c =
     let lowest : select (bit c.loop-c.left) 64 0 ≡ Some c.in-Some.bit = sym c.lsb.ensures ∙ c.in-Some.is in
     at_some _ _ (lowest)
-
-pub loop-c-smaller-in-Some : goal.loop-c-smaller-in-Some
-loop-c-smaller-in-Some c = omega arith
 
 pub loop-c-preserved-in-Some : goal.loop-c-preserved-in-Some
 loop-c-preserved-in-Some c =
@@ -117,10 +114,3 @@ loop-c-preserved c =
     let a = c.args in
     let l = c.loop-c in
     (l.invariant.0, l.invariant.1, subst (λ (w : ℕ). Left a.over_one a.words.now (l.word + 1) w (a.k + l.c)) (sym c.word_over-left.ensures) (left_next), l.invariant.3)
-
-pub returns : goal.returns
-returns c =
-    let a = c.args in
-    let l = c.loop-c in
-    let e : l.c ≡ a.size = omega arith in
-    record { long = l.invariant.1; stored = λ i h _. l.invariant.3 i (omega arith); last = l.invariant.3 (a.size - 1) (omega (arith, c.requires.2)) }

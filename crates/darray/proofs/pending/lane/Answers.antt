@@ -11,9 +11,6 @@ returns-then-n-k c = (sym (flush.lane_none _ _ _ c.if-n-k.true), lit< tt)
 pub returns-then-wide : goal.returns-then-wide
 returns-then-wide c = (sym (flush.lane_wide _ _ _ c.if-n-k.false (sym c.requires.3 ∙ c.if-wide.true)), lit< tt)
 
-pub overflow_sub-result : goal.overflow_sub-result
-overflow_sub-result c = (c.requires.2 _ c.if-n-k.false).0
-
 pub returns : goal.returns
 returns c =
     let p = c.requires in

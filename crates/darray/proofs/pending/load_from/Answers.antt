@@ -4,10 +4,8 @@ use Prim.Native.Nat.{◌+◌, ◌-◌}
 use native.Mathlib.Omega.{arith}
 use Rattle.bit_words.specs.Vector.{bit_over}
 use Rattle.darray_positions.specs.Scan.{Ahead}
-use Rattle.darray.specs.Pending.{block_wide}
 use Rattle.darray_positions.proofs.Blocks as block
 use Rattle.darray_positions.proofs.Counts as counts
-use Rattle.darray.proofs.Sampling as sampling
 use Rattle.darray.proofs.pending.load_from.Goals as goal
 
 pub overflow_add-k : goal.overflow_add-k
@@ -28,11 +26,3 @@ overflow_add-k-then-is_far c =
     let a = c.args in
     let n = c.requires.inside in
     omega (arith, n.there, n.few, counts.count_few a.over_one a.words.now n.bits)
-
-pub returns-then-is_far : goal.returns-then-is_far
-returns-then-is_far c =
-    let a = c.fill.new.a in
-    record {
-      sampled = sampling.sampled_all (bit_over c.args.over_one c.args.words.now) c.args.k c.args.size (block_wide a c.args.size) a c.fill.ensures;
-      next = c.cursor_at.ensures;
-    }

@@ -11,14 +11,6 @@ pub is_wide-requires : goal.is_wide-requires
 is_wide-requires c =
     sampling.sampled_rises (bit_over c.args.over_one c.args.words.now) c.args.k c.args.size false c.sample-next.new.a c.requires.some c.sample-next.ensures.0
 
-pub returns-then-is_wide : goal.returns-then-is_wide
-returns-then-is_wide c =
-    let a = c.fill.new.a in
-    record {
-      sampled = sampling.sampled_all (bit_over c.args.over_one c.args.words.now) c.args.k c.args.size (block_wide a c.args.size) a c.fill.ensures;
-      next = c.sample-next.ensures.1;
-    }
-
 pub returns-else-is_wide : goal.returns-else-is_wide
 unfolding block_wide
 returns-else-is_wide c =

@@ -1,14 +1,8 @@
--- `darray::pending::put_lanes` meets its contract.
+-- `darray::pending::put_lanes` meets its contract: the invariant says that the first t words of distances are written.
 -- Assumes nothing.
-use mathlib.Core.Path.{◌≡◌}
-use Prim.Native.Nat.{◌-◌, ◌≤◌}
-use lib.ListN.{length}
+use Rattle.std.proofs.Common.{◌≡◌}
 use Rattle.darray.specs.Pending.{block_lane_word, put}
 use Rattle.darray.proofs.pending.put_lanes.Given as goal
 
 abbrev pub invariant-loop-t : goal.invariant-loop-t
-invariant-loop-t l =
-    (l.t ≤ l.words) × (length l.out ≡ length l.initial.out) × (l.out ≡ put l.initial.out l.at (block_lane_word l.a l.n) l.t)
-
-abbrev pub decreases-loop-t : goal.decreases-loop-t
-decreases-loop-t l = l.words - l.t
+invariant-loop-t l = l.out ≡ put l.fn.out l.at (block_lane_word l.a l.n) l.t

@@ -1,11 +1,7 @@
 -- `darray::select::select` meets its contract.
 -- Assumes nothing.
-use mathlib.Core.Path.{sym}
 use Rattle.darray.proofs.Through as through
 use Rattle.darray.proofs.select.select.Goals as goal
 
 pub returns-then-positions-k : goal.returns-then-positions-k
 returns-then-positions-k c = through.too_few c.args.words.now c.args.len c.args.over_one c.args.index.now c.args.positions c.requires c.args.k c.if-positions-k.true
-
-pub returns : goal.returns
-returns c = sym c.select_within.ensures

@@ -1,12 +1,8 @@
 -- `darray::select::select_within` meets its contract.
 -- Assumes nothing.
-use mathlib.Core.Path.{sym, ◌∙◌}
-use native.Mathlib.Omega.{arith}
+use Rattle.std.proofs.Common.{arith, sym, ◌∙◌}
 use Rattle.darray.proofs.Through as through
 use Rattle.darray.proofs.select.select_within.Goals as goal
-
-pub overflow_add-entries : goal.overflow_add-entries
-overflow_add-entries c = let l = through.number_lt c.args.words.now c.args.len c.args.over_one c.args.index.now c.args.positions c.requires.0 in omega arith
 
 pub bounds-index-block : goal.bounds-index-block
 bounds-index-block c = through.entry_lt c.args.words.now c.args.len c.args.over_one c.args.index.now c.args.positions c.requires.0 c.args.k c.requires.1
@@ -14,35 +10,23 @@ bounds-index-block c = through.entry_lt c.args.words.now c.args.len c.args.over_
 pub read_entry-requires : goal.read_entry-requires
 read_entry-requires c = through.readable c.args.words.now c.args.len c.args.over_one c.args.index.now c.args.positions c.requires.0 c.args.k c.requires.1
 
-pub overflow_add-lane_words : goal.overflow_add-lane_words
-overflow_add-lane_words c = let l = through.number_lt c.args.words.now c.args.len c.args.over_one c.args.index.now c.args.positions c.requires.0 in omega arith
-
-pub overflow_add-at-in-Overflow : goal.overflow_add-at-in-Overflow
-overflow_add-at-in-Overflow c = let l = through.overflow_lt c.args.words.now c.args.len c.args.over_one c.args.index.now c.args.positions c.requires.0 c.args.k c.requires.1 c.in-Overflow.first (sym c.read_entry.ensures ∙ c.in-Overflow.is) in omega arith
-
-pub overflow_add-at-in-Overflow-2 : goal.overflow_add-at-in-Overflow-2
-overflow_add-at-in-Overflow-2 c = let l = through.overflow_lt c.args.words.now c.args.len c.args.over_one c.args.index.now c.args.positions c.requires.0 c.args.k c.requires.1 c.in-Overflow.first (sym c.read_entry.ensures ∙ c.in-Overflow.is) in omega arith
-
 pub offset_bounds-index-at : goal.offset_bounds-index-at
 offset_bounds-index-at c = let l = through.overflow_lt c.args.words.now c.args.len c.args.over_one c.args.index.now c.args.positions c.requires.0 c.args.k c.requires.1 c.in-Overflow.first (sym c.read_entry.ensures ∙ c.in-Overflow.is) in omega arith
 
 pub bounds-index-at : goal.bounds-index-at
-bounds-index-at c = through.overflow_lt c.args.words.now c.args.len c.args.over_one c.args.index.now c.args.positions c.requires.0 c.args.k c.requires.1 c.in-Overflow.first (sym c.read_entry.ensures ∙ c.in-Overflow.is)
+bounds-index-at c = let l = through.overflow_lt c.args.words.now c.args.len c.args.over_one c.args.index.now c.args.positions c.requires.0 c.args.k c.requires.1 c.in-Overflow.first (sym c.read_entry.ensures ∙ c.in-Overflow.is) in omega arith
+
+pub returns-in-Overflow : goal.returns-in-Overflow
+returns-in-Overflow c = sym (through.overflow_is c.args.words.now c.args.len c.args.over_one c.args.index.now c.args.positions c.requires.0 c.args.k c.requires.1 c.in-Overflow.first (sym c.read_entry.ensures ∙ c.in-Overflow.is) _ (omega arith))
 
 pub distance-requires : goal.distance-requires
 distance-requires c = let l = through.lane_lt c.args.words.now c.args.len c.args.over_one c.args.index.now c.args.positions c.requires.0 c.args.k c.requires.1 in omega arith
 
-pub overflow_add-start : goal.overflow_add-start
-overflow_add-start c = let l = through.start_lt c.args.words.now c.args.len c.args.over_one c.args.index.now c.args.positions c.requires.0 c.args.k c.requires.1 c.in-First.first c.distance.result (sym c.read_entry.ensures ∙ c.in-First.is) c.distance.ensures in let m = c.ranges.len.fits in omega arith
-
 pub returns-then-rest-eq0 : goal.returns-then-rest-eq0
-returns-then-rest-eq0 c = sym (through.exact c.args.words.now c.args.len c.args.over_one c.args.index.now c.args.positions c.requires.0 c.args.k c.requires.1 c.in-First.first c.distance.result (sym c.read_entry.ensures ∙ c.in-First.is) c.distance.ensures c.if-rest-eq0.true)
+returns-then-rest-eq0 c = sym (through.exact c.args.words.now c.args.len c.args.over_one c.args.index.now c.args.positions c.requires.0 c.args.k c.requires.1 c.div_ceil-entries.result (omega arith) c.in-First.first c.distance.result (sym c.read_entry.ensures ∙ c.in-First.is) c.distance.ensures c.if-rest-eq0.true)
 
 pub find_within-requires : goal.find_within-requires
-find_within-requires c = (through.findable c.args.words.now c.args.len c.args.over_one c.args.index.now c.args.positions c.requires.0 c.args.k c.requires.1 c.in-First.first c.distance.result (sym c.read_entry.ensures ∙ c.in-First.is) c.distance.ensures c.words_for.result c.words_for.ensures, through.enough c.args.words.now c.args.len c.args.over_one c.args.index.now c.args.positions c.requires.0 c.args.k c.requires.1 c.in-First.first c.distance.result (sym c.read_entry.ensures ∙ c.in-First.is) c.distance.ensures c.words_for.result c.words_for.ensures)
-
-pub returns-in-Overflow : goal.returns-in-Overflow
-returns-in-Overflow c = sym (through.overflow_is c.args.words.now c.args.len c.args.over_one c.args.index.now c.args.positions c.requires.0 c.args.k c.requires.1 c.in-Overflow.first (sym c.read_entry.ensures ∙ c.in-Overflow.is))
+find_within-requires c = (through.findable c.args.words.now c.args.len c.args.over_one c.args.index.now c.args.positions c.requires.0 c.args.k c.requires.1 c.div_ceil-entries.result (omega arith) c.in-First.first c.distance.result (sym c.read_entry.ensures ∙ c.in-First.is) c.distance.ensures c.words_for.result c.words_for.ensures, through.enough c.args.words.now c.args.len c.args.over_one c.args.index.now c.args.positions c.requires.0 c.args.k c.requires.1 c.div_ceil-entries.result (omega arith) c.in-First.first c.distance.result (sym c.read_entry.ensures ∙ c.in-First.is) c.distance.ensures c.words_for.result c.words_for.ensures)
 
 pub returns-else-rest-eq0 : goal.returns-else-rest-eq0
-returns-else-rest-eq0 c = sym (through.searched c.args.words.now c.args.len c.args.over_one c.args.index.now c.args.positions c.requires.0 c.args.k c.requires.1 c.in-First.first c.distance.result (sym c.read_entry.ensures ∙ c.in-First.is) c.distance.ensures c.words_for.result c.words_for.ensures) ∙ c.find_within.ensures
+returns-else-rest-eq0 c = sym (through.searched c.args.words.now c.args.len c.args.over_one c.args.index.now c.args.positions c.requires.0 c.args.k c.requires.1 c.div_ceil-entries.result (omega arith) c.in-First.first c.distance.result (sym c.read_entry.ensures ∙ c.in-First.is) c.distance.ensures c.words_for.result c.words_for.ensures) ∙ c.find_within.ensures

@@ -1,14 +1,9 @@
 -- `darray_positions::scan::advance` meets its contract: the invariant says that `before` is the count below the word.
 -- Assumes nothing.
-use mathlib.Core.Path.{◌≡◌}
-use Prim.Native.Nat.{◌-◌, ◌*◌, ◌≤◌}
+use Rattle.std.proofs.Common.{◌≡◌, ◌*◌, ◌≤◌}
 use Rattle.broadword.specs.Bits.{count}
 use Rattle.bit_words.specs.Vector.{bit_over}
 use Rattle.darray_positions.proofs.scan.advance.Given as goal
 
 abbrev pub invariant-loop-word : goal.invariant-loop-word
-invariant-loop-word l =
-    (l.before ≡ count (bit_over l.over_one l.words) (l.word * 64)) × (l.before ≤ l.k) × (l.initial.word ≤ l.word) × (l.word ≤ l.end)
-
-abbrev pub decreases-loop-word : goal.decreases-loop-word
-decreases-loop-word l = l.end - l.word
+invariant-loop-word l = (l.before ≡ count (bit_over l.over_one l.words) (l.word * 64)) × (l.before ≤ l.k)

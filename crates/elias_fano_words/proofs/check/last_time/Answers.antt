@@ -21,10 +21,6 @@ pub overflow_add-time : goal.overflow_add-time
 overflow_add-time c =
     record { fits = last-time.time_fits c.args.high.now c.args.low.now c.args.universe c.args.l (c.args.m - 1) c.last_one.result c.ranges.universe.fits c.requires.narrow c.last_one.ensures c.if-universe-l.false c.low_at.result c.low_at.ensures }
 
-pub returns-then-time-universe : goal.returns-then-time-universe
-returns-then-time-universe c =
-    last-time.time_below c.args.high.now c.args.low.now c.args.universe c.args.l (c.args.m - 1) c.last_one.result c.ranges.universe.fits c.requires.narrow c.last_one.ensures c.if-universe-l.false c.low_at.result c.low_at.ensures c.if-time-universe.true
-
-pub returns-else-time-universe : goal.returns-else-time-universe
-returns-else-time-universe c =
-    last-time.time_not c.args.high.now c.args.low.now c.args.universe c.args.l (c.args.m - 1) c.last_one.result c.ranges.universe.fits c.requires.narrow c.last_one.ensures c.if-universe-l.false c.low_at.result c.low_at.ensures c.if-time-universe.false
+pub returns : goal.returns
+returns c =
+    last-time.time_if c.args.high.now c.args.low.now c.args.universe c.args.l (c.args.m - 1) c.last_one.result c.ranges.universe.fits c.requires.narrow c.last_one.ensures c.if-universe-l.false c.low_at.result c.low_at.ensures c.then_some.result c.then_some.ensures
