@@ -1,17 +1,15 @@
 -- The answers of opening and of the questions, case by case. Assumes nothing.
-use Rattle.std.specs.Prelude.{Ok, Err, Some, None, Result, Option}
+use Rattle.std.specs.Prelude.{Ok, Some, None, Option}
 use mathlib.Core.Path.{◌≡◌, refl, sym, ap, ◌∙◌, subst}
 use mathlib.Core.List.{List}
 use mathlib.Core.Bool.{Bool, true, false, cond}
 use Prim.Native.Nat.{ℕ}
 use native.Mathlib.Omega.{arith}
 use Rattle.errors.specs.Answer.{Answer, value, refused}
-use Rattle.errors.specs.Refusal.{number_of}
-use Rattle.errors.specs.declared.Refusal.{Refusal}
 use Rattle.elias_fano.specs.declared.image.Parts.{Parts}
 use Rattle.elias_fano.specs.declared.opened.Image.{Image}
 use Rattle.elias_fano.specs.Opened.{Opens}
-use Rattle.elias_fano.specs.Accept.{accepted, parts_of, parts, unopened, of_opened, accepted_if, open_if, open_of}
+use Rattle.elias_fano.specs.Accept.{accepted, parts_of, parts, unopened, accepted_if, open_if, open_of}
 use Rattle.elias_fano.specs.Ask.{Question, asked, query}
 use Rattle.elias_fano.specs.Opening.{Headed, Heads, Open}
 

@@ -1,8 +1,7 @@
 -- When an image is accepted, what it holds, and what the queries answer. i is an image. Document 01, "The image" and "The book of demand 3".
 -- Assumes nothing.
 use Rattle.errors.specs.declared.Refusal.{Refusal}
-use Rattle.std.specs.Prelude.{List, Bool, false, ◌&&◌, cond, ℕ, ◌+◌, ◌*◌, ◌^◌, eqb, leb, ltb, length, get_or, drop, Ok, Err, Some, None, Result, Option}
-use Rattle.errors.specs.Answer.{Answer, value, none, refused}
+use Rattle.std.specs.Prelude.{List, Bool, false, ◌&&◌, cond, ℕ, ◌+◌, ◌*◌, ◌^◌, eqb, leb, ltb, length, get_or, drop, Ok, Err, Result}
 use Rattle.errors.specs.Refusal.{number_of}
 use Rattle.bit_words.specs.Vector.{words_for}
 use Rattle.darray.specs.Queries.{same}

@@ -196,12 +196,10 @@ fn is_intact(b: Builder, s: Sizes, words: &[u64]) -> bool
 fn are_zeros(words: &[u64]) -> bool
     ensures { result ≡ zeros words.now }
 {
-    let mut i: usize = 0;
-    while i < words.len() {
+    for i in 0..words.len() {
         if words[i] != 0 {
             return false;
         }
-        i += 1;
     }
     true
 }

@@ -1,5 +1,5 @@
 -- What the questions of an opened image demand and find, inside the crate. i is an image. Assumes nothing.
-use Rattle.std.specs.Prelude.{◌≡◌, List, Bool, true, ◌&&◌, ℕ, ◌+◌, ◌-◌, ◌%◌, ◌^◌, ◌≤◌, eqb, ltb}
+use Rattle.std.specs.Prelude.{◌≡◌, List, Bool, ◌&&◌, ℕ, ◌+◌, ◌-◌, ◌%◌, ◌^◌, ◌≤◌, eqb, ltb}
 use Rattle.broadword.specs.Bits.{count}
 use Rattle.broadword.specs.Fields.{word}
 use Rattle.bit_words.specs.Vector.{bit_at}

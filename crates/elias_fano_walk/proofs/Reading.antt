@@ -1,5 +1,4 @@
 -- Reading out: the words that are written grow by a value at each step, and are those of the definition in the end. Assumes nothing.
-use Rattle.std.specs.Prelude.{Err, Result}
 use mathlib.Core.Path.{◌≡◌, refl, sym, ap, ap₂, ◌∙◌}
 use mathlib.Core.List.{List, [], ◌∷◌, ◌++◌}
 use mathlib.Core.Bool.{Bool, true, false, cond}
@@ -10,10 +9,8 @@ use native.Mathlib.Omega.{arith}
 use lib.ListN.{length, get_or, take, drop, set, length-take, length-drop, length-set}
 use lib.Seq.{length-take-le, take-suc, drop-cons, append_snoc, set_at, get_or-drop}
 use Rattle.errors.specs.Answer.{value, refused, leaves}
-use Rattle.errors.specs.Refusal.{number_of}
-use Rattle.errors.specs.declared.Refusal.{Refusal}
 use Rattle.elias_fano.specs.declared.image.Parts.{Parts}
-use Rattle.elias_fano.specs.Accept.{times, accepted, parts_of, parts, unopened, of_opened, open_of}
+use Rattle.elias_fano.specs.Accept.{times, accepted, parts_of, parts, unopened, open_of}
 use Rattle.elias_fano.specs.Ask.{ReadFrom, ask, read_out, filled, read_from_of}
 use Rattle.elias_fano.proofs.Answers as answers
 use Rattle.elias_fano.proofs.Selecting as selecting

@@ -3,7 +3,7 @@ use Rattle.std.specs.Prelude.{◌≡◌, List, ℕ, ◌+◌, ◌-◌, ◌≤◌,
 use Rattle.broadword.specs.Places.{select}
 use Rattle.elias_fano.specs.declared.image.Parts.{Parts}
 use Rattle.elias_fano.specs.Accept.{times}
-use Rattle.elias_fano.specs.Opening.{Open, OneAt}
+use Rattle.elias_fano.specs.Opening.{OneAt}
 use Rattle.elias_fano_walk.specs.declared.search.Section.{Section}
 
 -- a range of its values that is not empty

@@ -8,7 +8,7 @@ use Rattle.bit_vectors.specs.Walk.{Walking}
 use Rattle.bit_vectors.specs.declared.unary.Unary.{Unary}
 use Rattle.elias_fano.specs.declared.image.Parts.{Parts}
 use Rattle.elias_fano.specs.Ask.{Next, nth, ask}
-use Rattle.elias_fano.specs.Opening.{Open, OneAt, high_part}
+use Rattle.elias_fano.specs.Opening.{OneAt, high_part}
 use Rattle.elias_fano_walk.specs.declared.walk.Walk.{Walk}
 use Rattle.elias_fano_walk.specs.declared.walk.One.{One}
 use Rattle.elias_fano_walk.specs.declared.walk.ValueStep.{ValueStep}

@@ -15,13 +15,10 @@ fn take_all(image: &Image, from: Walk, count: usize, out: &mut [u64])
     ensures { out.new ≡ take_list count (drop from.number (times image.now.words.now)) ++ drop count out.old }
 {
     let mut w = from;
-    let mut i = 0;
-    while i < count {
+    for i in 0..count {
         let t = take(image, w);
         out[i] = t.value;
-        let rest = t.walk;
-        w = rest;
-        i += 1;
+        w = t.walk;
     }
 }
 
@@ -29,11 +26,7 @@ fn take_all(image: &Image, from: Walk, count: usize, out: &mut [u64])
 pub fn how_many(m: usize, k: usize, room: usize) -> usize
     ensures { result ≡ min room (m - k) }
 {
-    if k >= m {
-        return 0;
-    }
-    let left = m - k;
-    if left < room { left } else { room }
+    m.saturating_sub(k).min(room)
 }
 
 // The values from the number k on, of an opened image; how many were written.

@@ -184,10 +184,8 @@ fn scan_range(image: &Image, section: Section, val: u64) -> Result<Option<usize>
     requires { OneAt image.now.words.now image.now.parts section.number section.place × Range image.now.parts section.number section.end }
     ensures { of_optional result ≡ first_index val section.number (take_list (section.end - section.number) (drop section.number (times image.now.words.now))) }
 {
-    let end = section.end;
-    let mut i = section.number;
-    let mut w = begin_at(image, i, section.place);
-    while i < end {
+    let mut w = begin_at(image, section.number, section.place);
+    for i in section.number..section.end {
         let t = take(image, w);
         let x = t.value;
         if x == val {
@@ -196,9 +194,7 @@ fn scan_range(image: &Image, section: Section, val: u64) -> Result<Option<usize>
         if val < x {
             return Ok(None);
         }
-        let rest = t.walk;
-        w = rest;
-        i += 1;
+        w = t.walk;
     }
     Ok(None)
 }
@@ -215,8 +211,7 @@ fn skip_below(image: &Image, from: Walk, val: u64) -> Walk
         if val <= t.value {
             return w;
         }
-        let rest = t.walk;
-        w = rest;
+        w = t.walk;
     }
     w
 }

@@ -1,7 +1,6 @@
 -- `elias_fano_queries::neighbours::predecessor_opened` meets its contract.
 -- Assumes nothing.
 use mathlib.Core.Bool.{not}
-use borrow.Author.Tests.{not-false}
 use mathlib.Core.Path.{ap, ◌≡◌}
 use Prim.Native.Nat.{◌+◌, ◌<◌}
 use native.Mathlib.Omega.{arith}

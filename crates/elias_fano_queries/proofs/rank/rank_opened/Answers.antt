@@ -2,7 +2,6 @@
 -- Assumes nothing.
 use mathlib.Core.Bool.{not}
 use mathlib.Core.Path.{ap}
-use borrow.Author.Tests.{not-false}
 use native.Mathlib.Omega.{arith}
 use Rattle.elias_fano_queries.proofs.Answering as answering
 use Rattle.elias_fano_queries.proofs.rank.rank_opened.Goals as goal

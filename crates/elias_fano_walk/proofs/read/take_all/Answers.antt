@@ -15,9 +15,6 @@ take-t-requires c =
 pub bounds-out-i : goal.bounds-out-i
 bounds-out-i c = let e = c.loop-i.invariant.long in let r = c.requires.2 in omega (arith, c.loop-i-test.true)
 
-pub loop-i-smaller : goal.loop-i-smaller
-loop-i-smaller c = omega arith
-
 pub loop-i-preserved : goal.loop-i-preserved
 loop-i-preserved c =
     let l = c.loop-i in

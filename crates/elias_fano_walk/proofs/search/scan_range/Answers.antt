@@ -25,9 +25,6 @@ returns-then-val-x c =
     let l = c.loop-i in
     searched.scan_stops c.args.image.now.words.now c.args.image.now.ok c.args.image.now.parts c.args.image.now.right c.args.val c.args.section.number c.args.section.end c.requires.1 l.w l.i l.invariant c.loop-i-test.true _ c.take-t.ensures.2 c.if-val-x.true
 
-pub loop-i-smaller : goal.loop-i-smaller
-loop-i-smaller c = omega (arith, c.loop-i-test.true)
-
 pub loop-i-preserved : goal.loop-i-preserved
 loop-i-preserved c =
     let l = c.loop-i in

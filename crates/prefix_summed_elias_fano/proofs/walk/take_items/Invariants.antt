@@ -1,5 +1,4 @@
 -- `prefix_summed_elias_fano::walk::take_items` meets its contract. The invariant: `i` items are written. The measure: how many are left. Assumes nothing.
-use Prim.Native.Nat.{◌-◌}
 use Rattle.prefix_summed_elias_fano.proofs.Taking as taking
 use Rattle.prefix_summed_elias_fano.proofs.walk.take_items.Given as goal
 
