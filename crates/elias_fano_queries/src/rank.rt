@@ -68,17 +68,15 @@ fn walk_back(image: &Image, val: u64, end: usize) -> usize
 {
     let h = (val >> image.parts.low_len) as usize;
     let low = low_bits(val, image.parts.low_len);
-    let mut i = end;
-    while 0 < i {
-        if high_bit(image, h + (i - 1)) == 0 {
-            break;
+    for i in (0..end).rev() {
+        if high_bit(image, h + i) == 0 {
+            return i + 1;
         }
-        if low_of(image, i - 1) < low {
-            break;
+        if low_of(image, i) < low {
+            return i + 1;
         }
-        i -= 1;
     }
-    i
+    0
 }
 
 // The same by halving, between the ends of the bucket.

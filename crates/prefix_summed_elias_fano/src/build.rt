@@ -32,13 +32,11 @@ fn sum_of(items: &[u64]) -> Option<u64>
     ensures { SumOf items.now result }
 {
     let mut sum: u64 = 0;
-    let mut i = 0;
-    while i < items.len() {
+    for i in 0..items.len() {
         if items[i] > LARGEST - sum {
             return None;
         }
         sum += items[i];
-        i += 1;
     }
     Some(sum)
 }
@@ -49,10 +47,8 @@ fn add_up(items: &[u64], from: usize, to: usize, start: u64) -> u64
     ensures { result ≡ sum_of (take to items.now) }
 {
     let mut sum = start;
-    let mut i = from;
-    while i < to {
+    for i in from..to {
         sum += items[i];
-        i += 1;
     }
     sum
 }
@@ -63,11 +59,10 @@ fn overflow_of(items: &[u64], l: usize) -> usize
     ensures { result ≡ before (high_positions (suc (sum_of items.now)) (length items.now) true (sums items.now)) (blocks (high_positions (suc (sum_of items.now)) (length items.now) true (sums items.now))) }
 {
     let n = items.len();
-    let blocks = (n + (BLOCK_LEN - 1)) / BLOCK_LEN;
+    let blocks = n.div_ceil(BLOCK_LEN);
     let mut overflow: usize = 0;
     let mut sum: u64 = 0;
-    let mut j: usize = 0;
-    while j < blocks {
+    for j in 0..blocks {
         let k = BLOCK_LEN * j;
         let size = block_size(n, j);
         let first = add_up(items, k, k + 1, sum);
@@ -78,7 +73,6 @@ fn overflow_of(items: &[u64], l: usize) -> usize
             size,
         );
         sum = last;
-        j += 1;
     }
     overflow
 }
@@ -109,8 +103,7 @@ fn file_all(items: &[u64], universe: u64, s: Sizes, buffer: &mut [u64])
 {
     let n = items.len() as u64;
     let mut sum: u64 = 0;
-    let mut i = 0;
-    while i < items.len() {
+    for i in 0..items.len() {
         let b = Builder {
             universe,
             num_vals: n,
@@ -119,7 +112,6 @@ fn file_all(items: &[u64], universe: u64, s: Sizes, buffer: &mut [u64])
         };
         sum += items[i];
         file(b, sum, s, &mut *buffer);
-        i += 1;
     }
 }
 

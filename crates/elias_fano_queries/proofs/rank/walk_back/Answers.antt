@@ -35,17 +35,18 @@ high_bit-requires c = let a = place c in (omega (arith, c.loop-i.invariant.1))
 pub low_of-requires : goal.low_of-requires
 low_of-requires c = (omega (arith, c.loop-i-test.true, c.loop-i.invariant.1, ranking.end_le c.args.image.now.words.now c.args.image.now.parts (record { ok = c.args.image.now.ok; parts = c.args.image.now.right }) c.args.val c.args.end c.requires.1))
 
-pub loop-i-smaller : goal.loop-i-smaller
-loop-i-smaller c = omega (arith, c.loop-i-test.true)
-
 pub loop-i-preserved : goal.loop-i-preserved
 loop-i-preserved c = (ranking.go_back c.args.image.now.words.now c.args.image.now.parts (record { ok = c.args.image.now.ok; parts = c.args.image.now.right }) c.args.val c.args.end c.requires.1 c.loop-i.i c.loop-i-test.true c.loop-i.invariant.0 c.loop-i.invariant.1 _ _ c.low_of.ensures c.low_bits-low.ensures c.requires.0 (ranking.not_zero _ (bit_at_le _ _) (λ z. c.if-high_bit-eq0.false (c.high_bit.ensures ∙ z))) c.if-low_of-low.false, omega (arith, c.loop-i.invariant.1))
 
-pub returns-after-loop-i : goal.returns-after-loop-i
-returns-after-loop-i c = omega (arith, c.loop-i-test.false, c.loop-i.invariant.0)
+pub returns : goal.returns
+returns c = omega (arith, c.loop-i-test.false, c.loop-i.invariant.0)
 
 pub returns-then-high_bit-eq0 : goal.returns-then-high_bit-eq0
-returns-then-high_bit-eq0 c = ranking.stop_zero c.args.image.now.words.now c.args.image.now.parts (record { ok = c.args.image.now.ok; parts = c.args.image.now.right }) c.args.val c.args.end c.requires.1 c.loop-i.i c.loop-i-test.true c.loop-i.invariant.0 c.loop-i.invariant.1 (sym c.high_bit.ensures ∙ c.if-high_bit-eq0.true)
+returns-then-high_bit-eq0 c =
+    let e = ranking.stop_zero c.args.image.now.words.now c.args.image.now.parts (record { ok = c.args.image.now.ok; parts = c.args.image.now.right }) c.args.val c.args.end c.requires.1 c.loop-i.i c.loop-i-test.true c.loop-i.invariant.0 c.loop-i.invariant.1 (sym c.high_bit.ensures ∙ c.if-high_bit-eq0.true) in
+    omega (arith, e, c.loop-i-test.true)
 
 pub returns-then-low_of-low : goal.returns-then-low_of-low
-returns-then-low_of-low c = ranking.stop_low c.args.image.now.words.now c.args.image.now.parts (record { ok = c.args.image.now.ok; parts = c.args.image.now.right }) c.args.val c.args.end c.requires.1 c.loop-i.i c.loop-i-test.true c.loop-i.invariant.0 c.loop-i.invariant.1 _ _ c.low_of.ensures c.low_bits-low.ensures c.if-low_of-low.true
+returns-then-low_of-low c =
+    let e = ranking.stop_low c.args.image.now.words.now c.args.image.now.parts (record { ok = c.args.image.now.ok; parts = c.args.image.now.right }) c.args.val c.args.end c.requires.1 c.loop-i.i c.loop-i-test.true c.loop-i.invariant.0 c.loop-i.invariant.1 _ _ c.low_of.ensures c.low_bits-low.ensures c.if-low_of-low.true in
+    omega (arith, e, c.loop-i-test.true)

@@ -7,6 +7,3 @@ use Rattle.elias_fano_queries.proofs.rank.walk_back.Given as goal
 
 abbrev pub invariant-loop-i : goal.invariant-loop-i
 invariant-loop-i l = (below l.val (times l.image.words.now) ≤ l.i) × (l.i ≤ l.end)
-
-abbrev pub decreases-loop-i : goal.decreases-loop-i
-decreases-loop-i l = l.i

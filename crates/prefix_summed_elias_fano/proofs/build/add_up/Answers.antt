@@ -20,12 +20,6 @@ bounds-items-i c = omega (arith, c.loop-i-test.true, c.requires.upto)
 pub overflow_add-sum : goal.overflow_add-sum
 overflow_add-sum c = let l = c.loop-i in let a = sums-law.sum_next c.args.items.now c.loop-i.i (omega (arith, c.loop-i-test.true, c.requires.upto)) in let b = sums-law.sum-upto c.args.items.now (suc l.i) in omega (arith, c.requires.small, l.invariant.2)
 
-pub overflow_add-i : goal.overflow_add-i
-overflow_add-i c = omega (arith, c.loop-i-test.true, c.ranges.to)
-
-pub loop-i-smaller : goal.loop-i-smaller
-loop-i-smaller c = omega (arith, c.loop-i-test.true)
-
 pub loop-i-preserved : goal.loop-i-preserved
 loop-i-preserved c = let l = c.loop-i in let a = sums-law.sum_next c.args.items.now c.loop-i.i (omega (arith, c.loop-i-test.true, c.requires.upto)) in (omega (arith, l.invariant.0), omega (arith, c.loop-i-test.true), ap (λ (y : ℕ). y + get_or c.args.items.now l.i 0) l.invariant.2 ∙ sym a ∙ ap (λ (k : ℕ). sum_of (take k c.args.items.now)) (let e : suc l.i ≡ l.i + 1 = omega arith in e))
 

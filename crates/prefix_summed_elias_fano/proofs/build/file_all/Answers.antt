@@ -25,9 +25,6 @@ overflow_add-sum c = let l = c.loop-i in let a = next_sum c.args.items.now l.i l
 pub file-requires : goal.file-requires
 file-requires c = let l = c.loop-i in filing.fileable c.args.items.now c.requires.0.summable c.args.buffer.now (λ k. (c.slice_known-1.given k).fits) c.requires.0.room l.i c.loop-i-test.true l.sum l.invariant.1 _ (next_sum c.args.items.now l.i l.sum c.loop-i-test.true l.invariant.1) c.args.s c.requires.0.sizes _ l.invariant.2 c.args.universe c.requires.1
 
-pub loop-i-smaller : goal.loop-i-smaller
-loop-i-smaller c = omega (arith, c.loop-i-test.true)
-
 pub loop-i-preserved : goal.loop-i-preserved
 loop-i-preserved c = let l = c.loop-i in let e : suc l.i ≡ l.i + 1 = omega arith in let f = c.file.ensures ∙ filing.files c.args.items.now c.requires.0.summable c.args.buffer.now (λ k. (c.slice_known-1.given k).fits) c.requires.0.room l.i c.loop-i-test.true _ (next_sum c.args.items.now l.i l.sum c.loop-i-test.true l.invariant.1) c.args.universe c.requires.1 _ l.invariant.3 ∙ ap (filed_first c.args.items.now c.args.buffer.now) e in (omega (arith, c.loop-i-test.true), next_sum c.args.items.now l.i l.sum c.loop-i-test.true l.invariant.1 ∙ ap (λ (k : ℕ). sum_of (take k c.args.items.now)) e, ap length f ∙ listing.length_held (suc (sum_of c.args.items.now)) (length c.args.items.now) (sums c.args.items.now) (filing.fits c.args.items.now c.requires.0.summable) (sums-law.length-sums 0 c.args.items.now) c.args.buffer.now (λ k. (c.slice_known-1.given k).fits) c.requires.0.room (take (l.i + 1) (sums c.args.items.now)), f)
 

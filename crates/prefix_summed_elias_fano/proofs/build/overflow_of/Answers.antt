@@ -15,9 +15,6 @@ use Rattle.prefix_summed_elias_fano.proofs.Blocks as block
 use Rattle.prefix_summed_elias_fano.proofs.Filing as filing
 use Rattle.prefix_summed_elias_fano.proofs.build.overflow_of.Goals as goal
 
-pub overflow_add-blocks : goal.overflow_add-blocks
-overflow_add-blocks c = omega (arith, c.requires.0.most)
-
 pub loop-j-init : goal.loop-j-init
 loop-j-init c = (omega arith, sym (index.before_none _), sym sums-law.sum_none)
 
@@ -97,12 +94,6 @@ overflow_add-overflow c =
     c.spilled-overflow.ensures ∙ block.share_is A l.j (there) c.args.l c.requires.1 _ _ _ c.block_size-size.ensures c.add_up-first.ensures c.add_up-last.ensures in
     ap₂ (λ (x y : ℕ). x + y) l.invariant.1 e ∙ sym (ap (before P) (add-one l.j) ∙ index.before_next P l.j) in
     let a = next_before in let b = block.before_small c.args.items.now (c.loop-j.j + 1) in omega (arith, c.requires.0.most)
-
-pub overflow_add-j : goal.overflow_add-j
-overflow_add-j c = omega (arith, c.loop-j-test.true, c.requires.0.most)
-
-pub loop-j-smaller : goal.loop-j-smaller
-loop-j-smaller c = omega (arith, c.loop-j-test.true)
 
 pub loop-j-preserved : goal.loop-j-preserved
 loop-j-preserved c =

@@ -2,7 +2,7 @@
 -- Assumes nothing.
 use mathlib.Core.Path.{◌≡◌}
 use mathlib.Core.Bool.{true}
-use Prim.Native.Nat.{suc, ◌-◌, ◌*◌, ◌≤◌}
+use Prim.Native.Nat.{suc, ◌*◌, ◌≤◌}
 use lib.ListN.{length, take}
 use Rattle.darray_positions.specs.Index.{before}
 use Rattle.elias_fano_words.specs.Image.{high_positions}
@@ -12,6 +12,3 @@ use Rattle.prefix_summed_elias_fano.proofs.build.overflow_of.Given as goal
 abbrev pub invariant-loop-j : goal.invariant-loop-j
 invariant-loop-j l =
     (l.j ≤ l.blocks) × (l.overflow ≡ before (high_positions (suc (sum_of l.items)) (length l.items) true (sums l.items)) l.j) × (l.sum ≡ sum_of (take (1024 * l.j) l.items))
-
-abbrev pub decreases-loop-j : goal.decreases-loop-j
-decreases-loop-j l = l.blocks - l.j

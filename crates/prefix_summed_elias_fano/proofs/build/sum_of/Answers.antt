@@ -21,9 +21,6 @@ returns-then-items-i c = let l = c.loop-i in let a = sums-law.sum_next c.args.it
 pub overflow_add-sum : goal.overflow_add-sum
 overflow_add-sum c = omega (arith, c.if-items-i.false, c.loop-i.invariant.2)
 
-pub loop-i-smaller : goal.loop-i-smaller
-loop-i-smaller c = omega (arith, c.loop-i-test.true)
-
 pub loop-i-preserved : goal.loop-i-preserved
 loop-i-preserved c = let l = c.loop-i in let a = sums-law.sum_next c.args.items.now c.loop-i.i c.loop-i-test.true in (omega (arith, c.loop-i-test.true), ap (λ (y : ℕ). y + get_or c.args.items.now l.i 0) l.invariant.1 ∙ sym a ∙ ap (λ (k : ℕ). sum_of (take k c.args.items.now)) (let e : suc l.i ≡ l.i + 1 = omega arith in e), omega (arith, c.if-items-i.false, l.invariant.2))
 

@@ -8,6 +8,3 @@ use Rattle.prefix_summed_elias_fano.proofs.build.sum_of.Given as goal
 
 abbrev pub invariant-loop-i : goal.invariant-loop-i
 invariant-loop-i l = (l.i ≤ length l.items) × (l.sum ≡ sum_of (take l.i l.items)) × (l.sum ≤ 2 ^ 64 - 2)
-
-abbrev pub decreases-loop-i : goal.decreases-loop-i
-decreases-loop-i l = length l.items - l.i
