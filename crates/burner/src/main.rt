@@ -7,72 +7,77 @@ mod images;
 mod records;
 mod usage;
 
-use arguments::Got;
+use console_text::output::Output;
 use std::process::ExitCode;
+use usage::Command;
 use word_files::say;
+use word_files::say::Failure;
 
-// A command by its number, whose arguments are in form.
-fn run(rt: &HostRuntime, k: usize, words: &mut [u64; 524288], out: &mut [u8; 65536]) -> i32 {
-    match k {
-        0 => records::log(rt, words, out),
-        1 => records::finish(rt, words, out),
-        6 => records::limit(rt, out),
-        _ => images::answer(rt, k, words, out),
-    }
-}
-
-// First the number of arguments is tested, and then whether numbers stand where they should.
-fn numbered(rt: &HostRuntime, k: usize, words: &mut [u64; 524288], out: &mut [u8; 65536]) -> i32 {
-    let n = arguments::count(rt);
-    if !usage::fits(k, n) {
-        return usage::wrong_count(out, k, n);
-    }
-    let i = arguments::first_wrong(rt, usage::first_number(k), n);
-    if i < n {
-        return usage::no_number(rt, out, k, i);
-    }
-    run(rt, k, words, out)
-}
-
-fn named(rt: &HostRuntime, name: &[u8], words: &mut [u64; 524288], out: &mut [u8; 65536]) -> i32 {
-    let k = usage::number_of(name);
-    if 6 < k {
-        say::of_file(name, b" is no command; burner alone lists them");
-        return 2;
-    }
-    numbered(rt, k, words, out)
-}
-
-fn command(rt: &HostRuntime, words: &mut [u64; 524288], out: &mut [u8; 65536]) -> i32 {
-    if arguments::count(rt) < 2 {
-        return usage::table();
-    }
-    let mut name = io::buffer();
-    match arguments::text(rt, 1, &mut name) {
-        Got::Bytes(n) => named(rt, arguments::bytes(&name, n), words, out),
-        Got::Nothing => {
-            say::sentence(b"the command is too long; burner alone lists them");
-            2
+// A command whose arguments are in form. The words and the output are no struct's: methods that lend both beside a local get no proof.
+fn run(
+    rt: &HostRuntime,
+    command: Command,
+    words: &mut [u64; 524288],
+    out: &mut Output,
+) -> Result<(), Failure> {
+    match command {
+        Command::Log => records::log(rt, words, out),
+        Command::Finish => records::finish(rt, words, out),
+        Command::Limit => records::limit(rt, out),
+        Command::Check | Command::List | Command::Ask | Command::Winters => {
+            images::answer(rt, command, words, out)
         }
     }
 }
 
-// Answers the exit status. Everything is on the stack: the words, of which a file may have as many, and the output.
-pub fn burner(rt: &HostRuntime) -> i32 {
-    let mut words = [0u64; 524288];
-    let mut out = [0u8; 65536];
-    command(rt, &mut words, &mut out)
+// First the number of arguments is tested, and then whether numbers stand where they should.
+fn numbered(
+    rt: &HostRuntime,
+    command: Command,
+    words: &mut [u64; 524288],
+    out: &mut Output,
+) -> Result<(), Failure> {
+    let n = arguments::count(rt);
+    if !command.fits(n) {
+        return Err(command.wrong_count(out, n));
+    }
+    if let Some(from) = command.first_number() {
+        if let Some(i) = arguments::first_wrong(rt, from, n) {
+            return Err(command.no_number(rt, out, i));
+        }
+    }
+    run(rt, command, words, out)
 }
 
-// The exit status, for the system.
-fn ended(status: i32) -> ExitCode {
-    match status {
-        0 => ExitCode::SUCCESS,
-        1 => ExitCode::FAILURE,
-        _ => ExitCode::from(2),
+// Which command the argument 1 names.
+fn named(rt: &HostRuntime) -> Result<Command, Failure> {
+    let mut space = io::buffer();
+    match arguments::text(rt, 1, &mut space) {
+        Some(name) => Command::named(name).ok_or_else(|| say::unusable(
+            name,
+            b" is no command; burner alone lists them",
+        )),
+        None => {
+            say::sentence(b"the command is too long; burner alone lists them");
+            Err(Failure::Unusable)
+        }
     }
 }
 
+// Everything is on the stack: the words, of which a file may have as many, and the output.
+pub fn burner(rt: &HostRuntime) -> Result<(), Failure> {
+    let mut words = [0u64; 524288];
+    let mut out = Output::new();
+    if arguments::count(rt) < 2 {
+        return usage::table(&mut out);
+    }
+    numbered(rt, named(rt)?, &mut words, &mut out)
+}
+
 fn main(rt: HostRuntime) -> ExitCode {
-    ended(burner(&rt))
+    match burner(&rt) {
+        Ok(()) => ExitCode::SUCCESS,
+        Err(Failure::Refused) => ExitCode::FAILURE,
+        Err(Failure::Unusable) => ExitCode::from(2),
+    }
 }

@@ -1,324 +1,197 @@
 // The lines of standard input: each is a time, which is pushed and answered.
-use console_text::output;
-use decimal::Parsed;
-use elias_fano::builder::{Builder, Pushed, push};
-use errors::Refusal;
+ghost use Rattle.std.specs.Prelude.{◌≤◌};
+
+use console_text::output::Output;
+use elias_fano::builder::{Builder, push};
 use std::io::Read;
-use word_files::{Saved, say};
+use word_files::say;
+use word_files::say::Failure;
 
-#[derive(Clone, Copy)]
-pub struct State {
-    // The record, but for its words.
-    pub record: Builder,
+// The bytes of a line that have gathered. No time is longer than the space.
+#[derive(Drop)]
+struct Line {
+    space: [u8; 64],
+    len: usize,
+    // Whether there were more bytes than fit.
+    long: bool,
+    ghost within: { len ≤ 64 },
+}
+
+impl Line {
+    fn new() -> Line {
+        Line {
+            space: [0; 64],
+            len: 0,
+            long: false,
+        }
+    }
+
+    fn push(&mut self, b: u8) {
+        if self.len < 64 {
+            self.space[self.len] = b;
+            self.len += 1;
+        } else {
+            self.long = true;
+        }
+    }
+
+    // The time that the whole line spells.
+    fn time(&self) -> Option<u64> {
+        if self.long {
+            return None;
+        }
+        decimal::parse(&self.space[..self.len]).ok()
+    }
+
+    fn clear(&mut self) {
+        self.len = 0;
+        self.long = false;
+    }
+}
+
+// A record that is logged to.
+#[derive(Drop)]
+pub struct Log<'a, 'b> {
+    rt: &'a HostRuntime,
+    file: &'a [u8],
+    record: Builder,
+    words: &'b mut [u64],
     // A save comes after so many accepted times, and after `left` more of them.
-    pub every: u64,
-    pub left: u64,
-    // How many bytes of a line have gathered, and whether there were more than fit.
-    pub count: usize,
-    pub long: bool,
-    // How many bytes of output have gathered.
-    pub at: usize,
-    // Whether the input goes on, and the status to end with.
-    pub going: bool,
-    pub status: i32,
+    every: u64,
+    left: u64,
+    line: Line,
+    out: &'b mut Output,
 }
 
-pub fn begin(record: Builder, every: u64) -> State {
-    State {
-        record,
-        every,
-        left: every,
-        count: 0,
-        long: false,
-        at: 0,
-        going: true,
-        status: 0,
-    }
-}
-
-fn flushed(out: &[u8; 65536], s: State) -> State {
-    let mut t = s;
-    t.at = output::flush(out, s.at);
-    t
-}
-
-fn stopped(s: State, status: i32) -> State {
-    let mut t = s;
-    t.going = false;
-    t.status = status;
-    t
-}
-
-fn said(out: &mut [u8; 65536], s: State, text: &[u8]) -> State {
-    let mut t = s;
-    let to = output::text(out, s.at, text);
-    t.at = output::line_end(out, to);
-    t
-}
-
-fn refused(out: &mut [u8; 65536], s: State, e: Refusal) -> State {
-    let mut t = s;
-    let to = output::refusal(out, s.at, e);
-    t.at = output::line_end(out, to);
-    t
-}
-
-// Saves the record, and counts anew.
-fn saved(rt: &HostRuntime, file: &[u8], s: State, words: &[u64], out: &[u8; 65536]) -> State {
-    match record_file::keep(rt, file, s.record, words) {
-        Saved::Done => {
-            let mut t = s;
-            t.left = s.every;
-            t
-        }
-        Saved::Failed => {
-            let t = flushed(out, s);
-            say::of_file(file, b" cannot be written");
-            stopped(t, 2)
+impl<'a, 'b> Log<'a, 'b> {
+    pub fn begin(
+        rt: &'a HostRuntime,
+        file: &'a [u8],
+        record: Builder,
+        every: u64,
+        words: &'b mut [u64],
+        out: &'b mut Output,
+    ) -> Log<'a, 'b> {
+        Log {
+            rt,
+            file,
+            record,
+            words,
+            every,
+            left: every,
+            line: Line::new(),
+            out,
         }
     }
-}
 
-// The answer to the time with which the record is to be saved: after the save, and at once.
-fn accepted_saved(
-    rt: &HostRuntime,
-    file: &[u8],
-    s: State,
-    words: &[u64],
-    out: &mut [u8; 65536],
-) -> State {
-    let t = saved(rt, file, s, words, out);
-    if !t.going {
-        return t;
+    fn answer(&mut self, text: &[u8]) {
+        self.out.text(text);
+        self.out.line_end();
     }
-    let u = said(out, t, b"ok");
-    flushed(out, u)
-}
 
-fn accepted(
-    rt: &HostRuntime,
-    file: &[u8],
-    s: State,
-    words: &[u64],
-    out: &mut [u8; 65536],
-) -> State {
-    if s.left <= 1 {
-        return accepted_saved(rt, file, s, words, out);
-    }
-    let mut t = s;
-    t.left = s.left - 1;
-    said(out, t, b"ok")
-}
-
-fn pushed(
-    rt: &HostRuntime,
-    file: &[u8],
-    s: State,
-    time: u64,
-    words: &mut [u64],
-    out: &mut [u8; 65536],
-) -> State {
-    match push(s.record, time, &mut *words) {
-        Pushed::Accepted(b) => {
-            let mut t = s;
-            t.record = b;
-            accepted(rt, file, t, words, out)
+    // Saves the record, and counts anew. What has gathered goes out before a failure is told.
+    fn save(&mut self) -> Result<(), Failure> {
+        if record_file::keep(self.rt, self.file, self.record, &*self.words).is_err() {
+            self.out.flush();
+            return Err(say::unusable(self.file, b" cannot be written"));
         }
-        Pushed::Refused(e) => refused(out, s, e),
+        self.left = self.every;
+        Ok(())
     }
-}
 
-// A line without its line feed.
-fn answered(
-    rt: &HostRuntime,
-    file: &[u8],
-    s: State,
-    text: &[u8],
-    words: &mut [u64],
-    out: &mut [u8; 65536],
-) -> State {
-    match decimal::parse(text) {
-        Parsed::Value(time) => pushed(rt, file, s, time, words, out),
-        Parsed::OutOfForm => said(out, s, b"bad line"),
-        Parsed::TooLarge => said(out, s, b"bad line"),
-    }
-}
-
-// The line as it stands.
-fn line_answered(
-    rt: &HostRuntime,
-    file: &[u8],
-    s: State,
-    text: &[u8],
-    words: &mut [u64],
-    out: &mut [u8; 65536],
-) -> State {
-    let n = s.count;
-    if s.long {
-        return said(out, s, b"bad line");
-    }
-    if text.len() < n {
-        return said(out, s, b"bad line");
-    }
-    answered(rt, file, s, &text[..n], words, out)
-}
-
-// Answers the line, and starts the next.
-fn ended(
-    rt: &HostRuntime,
-    file: &[u8],
-    s: State,
-    text: &[u8; 64],
-    words: &mut [u64],
-    out: &mut [u8; 65536],
-) -> State {
-    let mut t = line_answered(rt, file, s, text, words, out);
-    t.count = 0;
-    t.long = false;
-    t
-}
-
-// A byte of the input: it joins the line, as far as there is room, or ends it.
-fn byte_taken(
-    rt: &HostRuntime,
-    file: &[u8],
-    s: State,
-    b: u8,
-    text: &mut [u8; 64],
-    words: &mut [u64],
-    out: &mut [u8; 65536],
-) -> State {
-    if b == b'\n' {
-        return ended(rt, file, s, text, words, out);
-    }
-    let n = s.count;
-    let mut t = s;
-    if n < 64 {
-        text[n] = b;
-        t.count = n + 1;
-        return t;
-    }
-    t.long = true;
-    t
-}
-
-fn input_taken(
-    rt: &HostRuntime,
-    file: &[u8],
-    s: State,
-    input: &[u8],
-    text: &mut [u8; 64],
-    words: &mut [u64],
-    out: &mut [u8; 65536],
-) -> State {
-    let mut t = s;
-    let mut at: usize = 0;
-    while at < input.len() {
-        t = byte_taken(rt, file, t, input[at], text, &mut *words, out);
-        if !t.going {
-            return t;
+    // The time with which the record is to be saved is answered after the save, and at once.
+    fn accept(&mut self) -> Result<(), Failure> {
+        if self.left > 1 {
+            self.left -= 1;
+            self.answer(b"ok");
+            return Ok(());
         }
-        at += 1;
+        self.save()?;
+        self.answer(b"ok");
+        self.out.flush();
+        Ok(())
     }
-    t
-}
 
-// The last line may lack its line feed.
-fn last_line(
-    rt: &HostRuntime,
-    file: &[u8],
-    s: State,
-    text: &[u8; 64],
-    words: &mut [u64],
-    out: &mut [u8; 65536],
-) -> State {
-    if s.count == 0 {
-        return s;
-    }
-    ended(rt, file, s, text, words, out)
-}
-
-fn last_save(rt: &HostRuntime, file: &[u8], s: State, words: &[u64], out: &[u8; 65536]) -> State {
-    if s.left == s.every {
-        return s;
-    }
-    saved(rt, file, s, words, out)
-}
-
-// All lines are answered: what is not saved is saved.
-fn settled(rt: &HostRuntime, file: &[u8], s: State, words: &[u64], out: &[u8; 65536]) -> State {
-    if !s.going {
-        return s;
-    }
-    let t = flushed(out, s);
-    let u = last_save(rt, file, t, words, out);
-    stopped(u, u.status)
-}
-
-// At the end of the input.
-fn input_ended(
-    rt: &HostRuntime,
-    file: &[u8],
-    s: State,
-    text: &[u8; 64],
-    words: &mut [u64],
-    out: &mut [u8; 65536],
-) -> State {
-    let t = last_line(rt, file, s, text, &mut *words, out);
-    settled(rt, file, t, words, out)
-}
-
-// An input that fails ends as one that is at its end.
-fn input_failed(
-    rt: &HostRuntime,
-    file: &[u8],
-    s: State,
-    text: &[u8; 64],
-    words: &mut [u64],
-    out: &mut [u8; 65536],
-) -> State {
-    let t = input_ended(rt, file, s, text, words, out);
-    say::sentence(b"standard input cannot be read");
-    stopped(t, 2)
-}
-
-// Reads once, and answers the lines that are whole.
-fn turn(
-    rt: &HostRuntime,
-    file: &[u8],
-    s: State,
-    text: &mut [u8; 64],
-    words: &mut [u64],
-    out: &mut [u8; 65536],
-) -> State {
-    let mut input = io::large_buffer();
-    match rt.stdin().read(&mut input) {
-        Ok(0) => input_ended(rt, file, s, text, words, out),
-        Ok(n) => {
-            let t = input_taken(rt, file, s, &input[..n], text, words, out);
-            flushed(out, t)
+    fn push(&mut self, time: u64) -> Result<(), Failure> {
+        match push(self.record, time, &mut *self.words) {
+            Ok(b) => {
+                self.record = b;
+                self.accept()
+            }
+            Err(e) => {
+                self.out.refusal(e);
+                self.out.line_end();
+                Ok(())
+            }
         }
-        Err(_) => input_failed(rt, file, s, text, words, out),
     }
-}
 
-// Answers every line, and gives the status.
-pub fn all(
-    rt: &HostRuntime,
-    file: &[u8],
-    begun: State,
-    words: &mut [u64],
-    out: &mut [u8; 65536],
-) -> i32 {
-    let mut text = [0u8; 64];
-    let mut s = begun;
-    let mut turns = u64::MAX;
-    while turns > 0 {
-        s = turn(rt, file, s, &mut text, &mut *words, out);
-        if !s.going {
-            return s.status;
+    // Answers the line, and starts the next.
+    fn end_line(&mut self) -> Result<(), Failure> {
+        let time = self.line.time();
+        self.line.clear();
+        match time {
+            Some(t) => self.push(t),
+            None => {
+                self.answer(b"bad line");
+                Ok(())
+            }
         }
-        turns -= 1;
     }
-    s.status
+
+    // Each byte joins the line, or ends it.
+    fn take(&mut self, input: &[u8]) -> Result<(), Failure> {
+        for b in input {
+            if *b == b'\n' {
+                self.end_line()?;
+            } else {
+                self.line.push(*b);
+            }
+        }
+        Ok(())
+    }
+
+    // At the end of the input: the last line may lack its line feed, and what is not saved is saved.
+    fn end(&mut self) -> Result<(), Failure> {
+        if self.line.len > 0 {
+            self.end_line()?;
+        }
+        self.out.flush();
+        if self.left != self.every {
+            self.save()?;
+        }
+        Ok(())
+    }
+
+    // Reads once, and answers the lines that are whole; whether the input goes on. An input that fails ends as one that is at its end.
+    fn turn(&mut self) -> Result<bool, Failure> {
+        let mut input = io::large_buffer();
+        match self.rt.stdin().read(&mut input) {
+            Ok(0) => {
+                self.end()?;
+                Ok(false)
+            }
+            Ok(n) => {
+                let taken = self.take(&input[..n]);
+                self.out.flush();
+                taken?;
+                Ok(true)
+            }
+            Err(_) => {
+                let _ = self.end();
+                say::sentence(b"standard input cannot be read");
+                Err(Failure::Unusable)
+            }
+        }
+    }
+
+    // Answers every line.
+    pub fn run(mut self) -> Result<(), Failure> {
+        for _ in 0..u64::MAX {
+            if !self.turn()? {
+                return Ok(());
+            }
+        }
+        Ok(())
+    }
 }

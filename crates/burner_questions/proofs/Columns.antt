@@ -8,9 +8,10 @@ use native.Mathlib.Omega.{arith}
 use lib.ListN.{length, replicate}
 use lib.Dec.{ltb}
 use Rattle.decimal.specs.Decimal.{num_digits, Left, left, write_of}
-use Rattle.decimal.specs.declared.Written.{Written}
+use Rattle.std.specs.Prelude.{Option}
+use Rattle.std.specs.Option.{unwrap_or}
 use Rattle.decimal.proofs.Writing.{write_some}
-use Rattle.console_text.specs.Gathered.{Gathered, with_byte, with_text, end_after}
+use Rattle.console_text.specs.Gathered.{Gathered, with_byte, with_text}
 
 module _ (g : Gathered) (b n : ℕ) where
   pub again_more : (k : ℕ) → n ≡ suc k → with_text g (replicate n b) ≡ with_text (with_byte g b) (replicate k b)
@@ -31,8 +32,8 @@ places_few zero x = omega arith
 places_few (suc f) x = places_few_by f x (ltb x 10) (places_few f (x / 10))
 
 -- where a write of x to the front of 20 bytes ends
-pub digits_written : (x : ℕ) (l o : List ℕ) (w : Written) → 20 ≤ length l → left w o ≡ write_of x l 0 → end_after 20 w ≡ num_digits 19 x
+pub digits_written : (x : ℕ) (l o : List ℕ) (w : Option ℕ) → 20 ≤ length l → left w o ≡ write_of x l 0 → unwrap_or w 20 ≡ num_digits 19 x
 digits_written x l o w h e =
     let room : 0 + num_digits 19 x ≤ length l = omega (arith, places_few 19 x) in
-    ap (λ (r : Left). end_after 20 r.answer) (e ∙ sym (write_some x l 0 (num_digits 19 x) refl _ room refl))
+    ap (λ (r : Left). unwrap_or r.answer 20) (e ∙ sym (write_some x l 0 (num_digits 19 x) refl _ room refl))
     ∙ zero-add (num_digits 19 x)

@@ -1,3 +1,2 @@
 -- Laws of the definitions of `specs/`, and of columns.
 pub mod Columns
-pub mod Computed

@@ -1,59 +1,71 @@
 // `ask`: a line as the console has it, answered as the console answers it.
 use crate::send;
-use console_questions::windows;
+use console_questions::{Listing, windows};
+use console_text::line;
 use console_text::line::Arguments;
-use console_text::output::Reply;
-use console_text::{line, output};
+use console_text::output::{Output, Reply};
+use word_files::say::Failure;
 
-#[derive(Clone, Copy)]
-pub enum Asked {
-    // The exit status: 1 for `refused N`.
-    Status(i32),
+// Why a question is not answered.
+#[derive(Clone, Copy, Debug, PartialEq, Eq)]
+pub enum AskError {
     // The console answers `bad command`.
     OutOfForm,
+    // The answer is `refused N`, or it cannot be written.
+    Failed(Failure),
+}
+
+impl From<Failure> for AskError {
+    fn from(f: Failure) -> AskError {
+        AskError::Failed(f)
+    }
 }
 
 // A question that has one answer, of the record or of the prefix sums.
-fn replied(name: &[u8], r: Arguments, image: &[u64]) -> Reply {
-    if !r.fit {
-        return Reply::Bad;
+fn replied(name: &[u8], r: Arguments, image: &[u64]) -> Option<Reply> {
+    match console_questions::answer(name, r, image) {
+        Some(reply) => Some(reply),
+        None => console_sums::answer(name, r, image),
     }
-    let question = console_questions::answer(name, r, image);
-    if output::is_known(question) {
-        return question;
-    }
-    console_sums::answer(name, r, image)
 }
 
-// The answer's line: `walk` 0 and `read` 1 are 6 and 7 of the console's list.
-fn gathered(text: &[u8], image: &[u64], out: &mut [u8; 65536]) -> usize {
+// The answer's line.
+fn gather(text: &[u8], image: &[u64], out: &mut Output) {
     let end = line::word_end(text, 0);
-    let name = send::first(text, end);
-    let k = line::place_in(b"walk read sums_walk windows", name);
-    if k == 3 {
-        return output::reply_line(out, 0, windows::answer(text, end, image));
+    let name = &text[..end];
+    if line::same(name, b"windows") {
+        return out.reply_line(windows::answer(text, end, image));
     }
-    let r = line::numbers(text, end);
-    if k < 2 {
-        return console_questions::list(k + 6, r, image, out, 0);
+    let numbers = line::numbers(text, end);
+    if line::same(name, b"walk") {
+        return Listing::Walk.answer(numbers, image, out);
     }
-    if k == 2 {
-        return console_sums::list(r, image, out, 0);
+    if line::same(name, b"read") {
+        return Listing::Read.answer(numbers, image, out);
     }
-    output::reply_line(out, 0, replied(name, r, image))
+    if line::same(name, b"sums_walk") {
+        return console_sums::list(numbers, image, out);
+    }
+    let reply = match numbers {
+        Some(r) => replied(name, r, image),
+        None => None,
+    };
+    out.reply_line(reply.unwrap_or(Reply::Bad));
 }
 
-// What an answer's first byte tells. A list has digits, spaces and `none` only, so a long one, of which a part has gone out, is done too.
-fn told(out: &[u8; 65536], at: usize) -> Asked {
-    match out[0] {
-        b'r' => Asked::Status(send::whole(send::first(out, at), 1)),
-        b'b' => Asked::OutOfForm,
-        _ => Asked::Status(send::whole(send::first(out, at), 0)),
+// The answer goes out, but for `bad command`. Its first byte tells which it is. A list has digits, spaces and `none` only, so a long one, of which a part has gone out,
+// is told by it too.
+pub fn answer(text: &[u8], image: &[u64], out: &mut Output) -> Result<(), AskError> {
+    gather(text, image, out);
+    match out.gathered().first() {
+        Some(b'b') => {
+            out.clear();
+            Err(AskError::OutOfForm)
+        }
+        Some(b'r') => {
+            send::page(out)?;
+            Err(AskError::Failed(Failure::Refused))
+        }
+        _ => Ok(send::page(out)?),
     }
-}
-
-// The answer goes out, but for `bad command`.
-pub fn answer(text: &[u8], image: &[u64], out: &mut [u8; 65536]) -> Asked {
-    let at = gathered(text, image, out);
-    told(out, at)
 }

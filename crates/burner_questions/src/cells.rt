@@ -1,32 +1,18 @@
 // Columns: each is padded on the left to its width; what is longer takes more.
 ghost use Rattle.std.specs.Prelude.{◌≡◌, ◌-◌, length, replicate};
 ghost use Rattle.decimal.specs.Decimal.{num_digits};
-ghost use Rattle.console_text.specs.Gathered.{gathered, with_text, with_number};
+ghost use Rattle.console_text.specs.Gathered.{with_text, with_number};
+ghost use Rattle.console_text.specs.Held.{held};
 
-use console_text::output;
-use decimal::Written;
-
-// How many bytes are to be filled up.
-fn padding(width: usize, len: usize) -> usize
-    ensures { result ≡ width - len }
-{
-    if width < len {
-        return 0;
-    }
-    width - len
-}
+use console_text::output::Output;
 
 // The byte n times.
-pub fn repeated(out: &mut [u8; 65536], at: usize, b: u8, n: usize) -> usize
-    ensures { gathered result out.new ≡ with_text (gathered at out.old) (replicate n b) }
+pub fn repeated(out: &mut Output, b: u8, n: usize)
+    ensures { held out.new ≡ with_text (held out.old) (replicate n b) }
 {
-    let mut to = at;
-    let mut i: usize = 0;
-    while i < n {
-        to = output::byte(out, to, b);
-        i += 1;
+    for _ in 0..n {
+        out.byte(b);
     }
-    to
 }
 
 // How many digits x has.
@@ -34,30 +20,27 @@ fn digits(x: u64) -> usize
     ensures { result ≡ num_digits 19 x }
 {
     let mut text = [0u8; 20];
-    match decimal::write(x, &mut text, 0) {
-        Written::End(n) => n,
-        Written::NoRoom => 20,
-    }
+    decimal::write(x, &mut text, 0).unwrap_or(20)
 }
 
-pub fn text(out: &mut [u8; 65536], at: usize, width: usize, s: &[u8]) -> usize
-    ensures { gathered result out.new ≡ with_text (with_text (gathered at out.old) (replicate (width - length s.now) 32)) s.now }
+pub fn text(out: &mut Output, width: usize, s: &[u8])
+    ensures { held out.new ≡ with_text (with_text (held out.old) (replicate (width - length s.now) 32)) s.now }
 {
-    let to = repeated(out, at, b' ', padding(width, s.len()));
-    output::text(out, to, s)
+    repeated(out, b' ', width.saturating_sub(s.len()));
+    out.text(s);
 }
 
-pub fn number(out: &mut [u8; 65536], at: usize, width: usize, x: u64) -> usize
-    ensures { gathered result out.new ≡ with_number (with_text (gathered at out.old) (replicate (width - num_digits 19 x) 32)) x }
+pub fn number(out: &mut Output, width: usize, x: u64)
+    ensures { held out.new ≡ with_number (with_text (held out.old) (replicate (width - num_digits 19 x) 32)) x }
 {
-    let to = repeated(out, at, b' ', padding(width, digits(x)));
-    output::number(out, to, x)
+    repeated(out, b' ', width.saturating_sub(digits(x)));
+    out.number(x);
 }
 
 // The number after its sign and before a per cent sign.
-pub fn per_cent(out: &mut [u8; 65536], at: usize, width: usize, sign: u8, x: u64) -> usize {
-    let mut to = repeated(out, at, b' ', padding(padding(width, 2), digits(x)));
-    to = output::byte(out, to, sign);
-    to = output::number(out, to, x);
-    output::byte(out, to, b'%')
+pub fn per_cent(out: &mut Output, width: usize, sign: u8, x: u64) {
+    repeated(out, b' ', width.saturating_sub(2).saturating_sub(digits(x)));
+    out.byte(sign);
+    out.number(x);
+    out.byte(b'%');
 }

@@ -1,21 +1,9 @@
 // What is computed. `change` and `bar` demand numbers of starts that a record may have.
-ghost use Rattle.std.specs.Prelude.{◌≡◌, ◌+◌, ◌-◌, ◌*◌, ◌/◌, ◌≤◌, ◌<◌, min};
+ghost use Rattle.std.specs.Prelude.{◌≡◌, ◌+◌, ◌-◌, ◌*◌, ◌/◌, ◌≤◌, ◌<◌};
 ghost use Rattle.burner_questions.specs.Figures.{mean_gap, bar_len};
 
 // No record has more starts.
 pub const MOST: u64 = 16777216;
-
-pub fn least(a: u64, b: u64) -> u64
-    ensures { result ≡ min a b }
-{
-    if a < b { a } else { b }
-}
-
-pub fn larger(a: u64, b: u64) -> u64
-    ensures { result ≡ a + (b - a) }
-{
-    if a < b { b } else { a }
-}
 
 // The mean gap of a span's starts, in whole seconds.
 pub fn mean_gap(starts: u64, first: u64, last: u64) -> u64
@@ -24,10 +12,7 @@ pub fn mean_gap(starts: u64, first: u64, last: u64) -> u64
     if starts < 2 {
         return 0;
     }
-    if last < first {
-        return 0;
-    }
-    (last - first) / (starts - 1)
+    last.saturating_sub(first) / (starts - 1)
 }
 
 // How far `starts` is from `base`, in whole per cent of it.
@@ -35,10 +20,7 @@ pub fn change(starts: u64, base: u64) -> u64
     requires { (starts ≤ 16777216) × (base ≤ 16777216) × (0 < base) }
     ensures { result ≡ ((starts - base) + (base - starts)) * 100 / base }
 {
-    if starts < base {
-        return (base - starts) * 100 / base;
-    }
-    (starts - base) * 100 / base
+    starts.abs_diff(base) * 100 / base
 }
 
 // How long the bar is, where `most` starts have 40.
@@ -53,9 +35,5 @@ pub fn bar(starts: u64, most: u64) -> u64
     if most <= starts {
         return 40;
     }
-    let n = starts * 40 / most;
-    if n == 0 {
-        return 1;
-    }
-    n
+    (starts * 40 / most).max(1)
 }

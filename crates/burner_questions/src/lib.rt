@@ -1,5 +1,7 @@
-// The program's questions over an image: each writes its answer to standard output, or a sentence to standard error, and answers the exit status.
+// The program's questions over an image: each writes its answer to standard output, or fails with a sentence on standard error.
 #![tactic(auto)]
+
+ghost use Rattle.std.specs.Prelude.{◌≡◌};
 
 pub mod ask;
 mod cells;
@@ -8,19 +10,35 @@ pub mod list;
 pub mod send;
 pub mod table;
 
-use elias_fano::image::{Opened, open};
+use elias_fano::opened::Image;
 use word_files::say;
+use word_files::say::Failure;
 
-// Words that are no image are refused with 7.
-fn no_image(path: &[u8]) -> i32 {
-    say::of_file(path, b" is not an image (refused 7)");
-    1
+// The words of a file, which should be an image.
+#[derive(Clone, Copy)]
+pub struct ImageFile<'a> {
+    pub path: &'a [u8],
+    pub words: &'a [u64],
 }
 
-// `check`: whether the words of the file are an image.
-pub fn check(path: &[u8], image: &[u64]) -> i32 {
-    match open(image) {
-        Opened::Image(_) => send::whole(b"ok\n", 0),
-        Opened::Refused(_) => no_image(path),
+impl<'a> ImageFile<'a> {
+    // Words that are no image are refused with 7.
+    fn refused(self) -> Failure
+        ensures { result ≡ Failure.Refused }
+    {
+        say::refused(self.path, b" is not an image (refused 7)")
+    }
+
+    fn open(self) -> Result<Image<'a>, Failure> {
+        match Image::open(self.words) {
+            Ok(image) => Ok(image),
+            Err(_) => Err(self.refused()),
+        }
+    }
+
+    // `check`: whether it is an image.
+    pub fn check(self) -> Result<(), Failure> {
+        self.open()?;
+        send::whole(b"ok\n")
     }
 }

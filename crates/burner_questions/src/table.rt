@@ -1,25 +1,25 @@
 // `winters`: a line for each span between two seconds, under a heading. The columns are `from to starts mean_gap shortest_gap change bar`.
 ghost use Rattle.std.specs.Prelude.{◌≤◌, ◌<◌};
 
-use crate::send::Page;
-use crate::{cells, figures, no_image, send};
-use console_text::{line, output};
-use elias_fano::image::Number;
+use crate::{ImageFile, cells, figures, send};
+use console_text::output::Output;
 use winters::compare;
+use word_files::say::Failure;
 
-// What is told of a span. `starts` is at most 16,777,216.
+// What is told of a span. No record has more starts.
 #[derive(Clone, Copy)]
 struct Span {
-    pub from: u64,
-    pub to: u64,
-    pub starts: u64,
-    pub first: u64,
-    pub last: u64,
-    pub gap: u64,
+    from: u64,
+    to: u64,
+    starts: u64,
+    first: u64,
+    last: u64,
+    gap: u64,
+    ghost few: { starts ≤ 16777216 },
 }
 
 fn word(words: &[u64], i: usize) -> u64 {
-    if i < words.len() { words[i] } else { 0 }
+    words.get(i).copied().unwrap_or(0)
 }
 
 // How many starts the span i has, of four words a span.
@@ -27,21 +27,7 @@ fn starts_of(words: &[u64], i: usize) -> u64
     requires { i < 1000 }
     ensures { result ≤ 16777216 }
 {
-    figures::least(word(words, 4 * i), figures::MOST)
-}
-
-fn span_at(seconds: &[u64], words: &[u64], i: usize) -> Span
-    requires { i < 1000 }
-    ensures { result.starts ≤ 16777216 }
-{
-    Span {
-        from: word(seconds, i),
-        to: word(seconds, i + 1),
-        starts: starts_of(words, i),
-        first: word(words, 4 * i + 1),
-        last: word(words, 4 * i + 2),
-        gap: word(words, 4 * i + 3),
-    }
+    word(words, 4 * i).min(figures::MOST)
 }
 
 // The most starts that one of n spans has.
@@ -49,119 +35,107 @@ fn most_of(words: &[u64], n: usize) -> u64
     requires { n < 1000 }
 {
     let mut most: u64 = 0;
-    let mut i: usize = 0;
-    while i < n {
-        most = figures::larger(most, starts_of(words, i));
-        i += 1;
+    for i in 0..n {
+        most = most.max(starts_of(words, i));
     }
     most
 }
 
-// A number, or `-` where it is not told.
-fn cell(out: &mut [u8; 65536], at: usize, width: usize, told: bool, x: u64) -> usize {
-    let to = output::byte(out, at, b' ');
-    if told {
-        return cells::number(out, to, width, x);
+// A number after a space, or `-` where there is none.
+fn cell(out: &mut Output, width: usize, told: Option<u64>) {
+    out.byte(b' ');
+    match told {
+        Some(x) => cells::number(out, width, x),
+        None => cells::text(out, width, b"-"),
     }
-    cells::text(out, to, width, b"-")
 }
 
-// The change of `starts` against `base`, with its sign: 6 digits and more take more than the width of 8.
-fn change(out: &mut [u8; 65536], at: usize, told: bool, starts: u64, base: u64) -> usize
-    requires { (starts ≤ 16777216) × (base ≤ 16777216) }
-{
-    let to = output::byte(out, at, b' ');
-    if !told {
-        return cells::text(out, to, 8, b"-");
-    }
-    if base == 0 {
-        return cells::text(out, to, 8, b"-");
-    }
-    let x = figures::change(starts, base);
-    if starts < base {
-        if 0 < x {
-            return cells::per_cent(out, to, 8, b'-', x);
+fn heading(out: &mut Output) {
+    cells::text(out, 12, b"from");
+    cells::text(out, 13, b"to");
+    cells::text(out, 10, b"starts");
+    cells::text(out, 11, b"mean_gap");
+    cells::text(out, 14, b"shortest_gap");
+    cells::text(out, 9, b"change");
+    out.text(b" bar\n");
+}
+
+impl Span {
+    // The span i, of four words a span.
+    fn at(seconds: &[u64], words: &[u64], i: usize) -> Span
+        requires { i < 1000 }
+    {
+        Span {
+            from: word(seconds, i),
+            to: word(seconds, i + 1),
+            starts: starts_of(words, i),
+            first: word(words, 4 * i + 1),
+            last: word(words, 4 * i + 2),
+            gap: word(words, 4 * i + 3),
         }
     }
-    cells::per_cent(out, to, 8, b'+', x)
-}
 
-fn bar(out: &mut [u8; 65536], at: usize, starts: u64, most: u64) -> usize
-    requires { starts ≤ 16777216 }
-{
-    let n = figures::bar(starts, most);
-    if n == 0 {
-        return output::text(out, at, b" -");
+    // The change of its starts against a base, with its sign: 6 digits and more take more than the width of 8.
+    fn change(self, out: &mut Output, base: Option<Span>) {
+        out.byte(b' ');
+        match base {
+            Some(b) if 0 < b.starts => {
+                let x = figures::change(self.starts, b.starts);
+                let sign = if self.starts < b.starts && 0 < x {
+                    b'-'
+                } else {
+                    b'+'
+                };
+                cells::per_cent(out, 8, sign, x);
+            }
+            _ => cells::text(out, 8, b"-"),
+        }
     }
-    let to = output::byte(out, at, b' ');
-    cells::repeated(out, to, b'#', line::size(n))
+
+    fn bar(self, out: &mut Output, most: u64) {
+        let n = figures::bar(self.starts, most);
+        if n == 0 {
+            return out.text(b" -");
+        }
+        out.byte(b' ');
+        cells::repeated(out, b'#', n as usize);
+    }
+
+    // Its line, against a base.
+    fn row(self, out: &mut Output, base: Option<Span>, most: u64) {
+        let gaps = 1 < self.starts;
+        let mean = figures::mean_gap(self.starts, self.first, self.last);
+        cells::number(out, 12, self.from);
+        cell(out, 12, Some(self.to));
+        cell(out, 9, Some(self.starts));
+        cell(out, 10, gaps.then_some(mean));
+        cell(out, 13, gaps.then_some(self.gap));
+        self.change(out, base);
+        self.bar(out, most);
+        out.line_end();
+    }
 }
 
-fn heading(out: &mut [u8; 65536]) -> usize {
-    let mut at = cells::text(out, 0, 12, b"from");
-    at = cells::text(out, at, 13, b"to");
-    at = cells::text(out, at, 10, b"starts");
-    at = cells::text(out, at, 11, b"mean_gap");
-    at = cells::text(out, at, 14, b"shortest_gap");
-    at = cells::text(out, at, 9, b"change");
-    output::text(out, at, b" bar\n")
-}
-
-// The line of the span i, against `base` starts of the first.
-fn row(out: &mut [u8; 65536], at: usize, s: Span, i: usize, base: u64, most: u64) -> usize
-    requires { (s.starts ≤ 16777216) × (base ≤ 16777216) }
-{
-    let starts = s.starts;
-    let two = 1 < starts;
-    let mut to = cells::number(out, at, 12, s.from);
-    to = cell(out, to, 12, true, s.to);
-    to = cell(out, to, 9, true, starts);
-    to = cell(out, to, 10, two, figures::mean_gap(starts, s.first, s.last));
-    to = cell(out, to, 13, two, s.gap);
-    to = change(out, to, 0 < i, starts, base);
-    to = bar(out, to, starts, most);
-    output::line_end(out, to)
-}
-
-// The lines of n spans, until a write fails.
-fn rows(seconds: &[u64], words: &[u64], n: usize, out: &mut [u8; 65536]) -> Page
+// The lines of n spans, each after the first against it, until a write fails.
+fn rows(seconds: &[u64], words: &[u64], n: usize, out: &mut Output) -> Result<(), Failure>
     requires { n < 1000 }
 {
-    let base = starts_of(words, 0);
     let most = most_of(words, n);
-    let begun = heading(out);
-    let mut page = send::turned(out, begun);
-    let mut i: usize = 0;
-    while i < n {
-        let to = row(out, page.at, span_at(seconds, words, i), i, base, most);
-        page = send::turned(out, to);
-        if page.failed {
-            return page;
-        }
-        i += 1;
+    let first = Span::at(seconds, words, 0);
+    heading(out);
+    for i in 0..n {
+        let base = if i == 0 { None } else { Some(first) };
+        Span::at(seconds, words, i).row(out, base, most);
+        send::full_page(out)?;
     }
-    page
-}
-
-// As many as are asked for at most.
-fn fewer(n: usize) -> usize
-    ensures { result < 1000 }
-{
-    if n < 1000 { n } else { 999 }
-}
-
-// The n spans as `compare` tells them.
-fn compared(seconds: &[u64], words: &[u64], n: usize, out: &mut [u8; 65536]) -> i32 {
-    let page = rows(seconds, words, fewer(n), out);
-    send::last(out, page)
+    send::page(out)
 }
 
 // The spans between 1,000 seconds at most.
-pub fn answer(path: &[u8], image: &[u64], seconds: &[u64], out: &mut [u8; 65536]) -> i32 {
+pub fn answer(file: ImageFile, seconds: &[u64], out: &mut Output) -> Result<(), Failure> {
     let mut words = [0u64; 4000];
-    match compare(image, seconds, &mut words) {
-        Number::Is(n) => compared(seconds, &words, n, out),
-        Number::Nothing => no_image(path),
-        Number::Refused(_) => no_image(path),
+    match compare(file.words, seconds, &mut words) {
+        Ok(n) => rows(seconds, &words, n.min(999), out),
+        Err(_) => Err(file.refused()),
     }
 }

@@ -1,340 +1,184 @@
 // One line of input: finds its section and answers it.
-ghost use Rattle.std.specs.Prelude.{◌≤◌, length};
-
-use crate::bits::Told;
-use crate::{bits, index, walk, words};
-use console_questions::windows;
+use crate::bits::Bits;
+use crate::{index, walk, words};
+use console_questions::{Listing, windows};
 use console_record::{Record, show};
-use console_sarray::{Sparse, SparseTold};
+use console_sarray::Sparse;
+use console_text::line;
 use console_text::line::Arguments;
-use console_text::output::Reply;
-use console_text::{line, output};
+use console_text::output::{Output, Reply};
 
-// What the console holds besides its arrays.
-#[derive(Clone, Copy)]
-pub struct State {
-    // How many bytes of a line have gathered, and whether there were more than fit.
-    pub count: usize,
-    pub long: bool,
-    // The bits: how many words are lent, and the length.
-    pub lent: usize,
-    pub len: usize,
-    // The record, but for the buffer's words.
-    pub record: Record,
-    // The sparse vector, but for its image.
-    pub sparse: Sparse,
-    // How many bytes of output have gathered.
-    pub at: usize,
-    // Whether the input goes on.
-    pub going: bool,
-}
-
-// A line that is no command, as one of more than 65,536 bytes.
-pub fn bad(out: &mut [u8; 65536], s: State) -> State {
-    let mut t = s;
-    t.at = output::reply_line(out, s.at, Reply::Bad);
-    t
-}
-
-// A length, and no more words than there are.
-fn fits_bits(n: usize) -> bool {
-    if n < 1 {
-        return false;
-    }
-    n <= 4097
-}
-
-// `bits LEN W..`
-fn set(text: &[u8], end: usize, words: &mut [u64; 4096], out: &mut [u8; 65536], s: State) -> State
-    requires { end ≤ length text.now }
-{
-    let r = line::numbers(text, end);
-    if !fits_bits(r.n) {
-        return bad(out, s);
-    }
-    let mut t = s;
-    stored(text, end, words);
-    t.lent = less_one(r.n);
-    t.len = line::size(r.a);
-    t.at = output::reply_line(out, s.at, Reply::Done);
-    t
-}
-
-fn less_one(n: usize) -> usize {
-    if n < 1 { 0 } else { n - 1 }
-}
-
-// The words after the length.
-fn stored(text: &[u8], end: usize, words: &mut [u64; 4096])
-    requires { end ≤ length text.now }
-{
-    if end < text.len() {
-        line::store(text, line::word_end(text, end + 1), words);
-    }
-}
-
-// The sections Words and Bits.
-fn of_numbers(name: &[u8], r: Arguments, words: &mut [u64], len: usize) -> Told {
-    if !r.fit {
-        return Told {
-            reply: Reply::Bad,
-            len,
-        };
-    }
-    let w = words::answer(name, r);
-    if output::is_known(w) {
-        return Told { reply: w, len };
-    }
-    let b = bits::ask(name, r, words, len);
-    if output::is_known(b) {
-        return Told { reply: b, len };
-    }
-    bits::alter(name, r, words, len)
-}
-
-// What a command of the section Record answers is written, and what it leaves is held.
-fn after(told: SparseTold, out: &mut [u8; 65536], s: State) -> State {
-    let mut t = s;
-    let reply = told.reply;
-    let record = told.record;
-    let sparse = told.sparse;
-    t.record = record;
-    t.sparse = sparse;
-    t.at = output::reply_line(out, s.at, reply);
-    t
-}
-
-// A question over the image: of the record, of the prefix sums, or of the sparse vector.
-fn asked(name: &[u8], r: Arguments, image: &[u64], v: Sparse) -> Reply {
-    let question = console_questions::answer(name, r, image);
-    if output::is_known(question) {
-        return question;
-    }
-    let sums = console_sums::answer(name, r, image);
-    if output::is_known(sums) {
-        return sums;
-    }
-    console_sarray::answer(name, r, image, v)
-}
-
-// What leaves the sparse vector as it is held.
-fn beside(told: console_record::Told, v: Sparse) -> SparseTold {
-    let reply = told.reply;
-    let record = told.record;
-    SparseTold {
-        reply,
-        record,
-        sparse: v,
-    }
-}
-
-// What alters what is held of the record: `from_bits`, which is of the console's bits, or another.
-fn altered(
-    name: &[u8],
-    r: Arguments,
-    bits: &[u64],
-    len: usize,
-    buffer: &mut [u64],
-    held: Record,
-) -> console_record::Told {
-    let told = console_sums::bits::answer(name, r, bits, len, &mut *buffer, held);
-    let reply = told.reply;
-    if output::is_known(reply) {
-        return told;
-    }
-    console_record::answer(name, r, &mut *buffer, held)
-}
-
-// What alters what is held: of the sparse vector, or of the record.
-fn held_after(
-    name: &[u8],
-    r: Arguments,
-    bits: &[u64],
-    len: usize,
-    buffer: &mut [u64],
-    held: Record,
-    v: Sparse,
-) -> SparseTold {
-    let told = console_sarray::alter(name, r, bits, len, &mut *buffer, held, v);
-    let reply = told.reply;
-    if output::is_known(reply) {
-        return told;
-    }
-    beside(altered(name, r, bits, len, &mut *buffer, held), v)
-}
-
-// The section Record: a question over the image, or what alters what is held.
-fn of_record(
-    name: &[u8],
-    r: Arguments,
-    bits: &[u64],
-    buffer: &mut [u64; 65536],
-    out: &mut [u8; 65536],
-    s: State,
-) -> State {
-    let mut t = s;
-    let held = s.record;
-    let v = s.sparse;
-    let question = asked(name, r, line::first(buffer, held.image), v);
-    if output::is_known(question) {
-        t.at = output::reply_line(out, s.at, question);
-        return t;
-    }
-    after(held_after(name, r, bits, s.len, buffer, held, v), out, s)
-}
-
-// `sums X..`
-fn summed(
-    text: &[u8],
-    end: usize,
-    buffer: &mut [u64; 65536],
-    out: &mut [u8; 65536],
-    s: State,
-) -> State {
-    let held = s.record;
-    let v = s.sparse;
-    after(
-        beside(console_sums::build::answer(text, end, buffer, held), v),
-        out,
-        s,
-    )
-}
-
-// `windows S E W..`
-fn windowed(
-    text: &[u8],
-    end: usize,
-    buffer: &[u64; 65536],
-    out: &mut [u8; 65536],
-    s: State,
-) -> State {
-    let mut t = s;
-    let held = s.record;
-    let image = line::first(buffer, held.image);
-    t.at = output::reply_line(out, s.at, windows::answer(text, end, image));
-    t
-}
-
-// A command that takes a few numbers and has one answer: what the first two sections do not know is asked of the record.
-fn numbered(
-    name: &[u8],
-    r: Arguments,
-    words: &mut [u64],
-    buffer: &mut [u64; 65536],
-    out: &mut [u8; 65536],
-    s: State,
-) -> State {
-    let mut t = s;
-    let n = s.lent;
-    if words.len() < n {
-        return s;
-    }
-    let told = of_numbers(name, r, &mut words[..n], s.len);
-    let reply = told.reply;
-    if !output::is_known(reply) {
-        return of_record(name, r, line::first(words, n), buffer, out, s);
-    }
-    t.len = told.len;
-    t.at = output::reply_line(out, s.at, reply);
-    t
-}
-
-// The numbers of `index`, one choice, and of `dump`, `words` and `builder`, none.
-fn fits_list(k: usize, r: Arguments) -> bool {
-    if !r.fit {
-        return false;
-    }
-    if k == 2 {
-        return r.n == 1 && r.a < 2;
-    }
-    r.n == 0
-}
-
-// The commands of Bits that write a list.
-fn listed(
-    k: usize,
-    text: &[u8],
-    end: usize,
-    words: &[u64],
-    len: usize,
-    out: &mut [u8; 65536],
-    at: usize,
-) -> usize
-    requires { end ≤ length text.now }
-{
-    if k == 1 {
-        return walk::answer(text, end, words, len, out, at);
-    }
-    let r = line::numbers(text, end);
-    if !fits_list(k, r) {
-        return output::reply_line(out, at, Reply::Bad);
-    }
-    if k == 2 {
-        return index::answer(r.a == 1, words, len, out, at);
-    }
-    bits::dump(words, len, out, at)
-}
-
-// Those of Record: `words` 4, `builder` 5, and the questions `walk` 6, `read` 7, `sums_walk` 8.
-fn recorded(
-    k: usize,
-    r: Arguments,
-    buffer: &[u64],
+// What the console holds.
+#[derive(Drop)]
+pub struct Console {
+    bits: Bits,
+    buffer: [u64; 65536],
     record: Record,
-    out: &mut [u8; 65536],
-    at: usize,
-) -> usize {
-    if k == 8 {
-        return console_sums::list(r, line::first(buffer, record.image), out, at);
-    }
-    if 5 < k {
-        return console_questions::list(k, r, line::first(buffer, record.image), out, at);
-    }
-    if fits_list(k, r) {
-        return show::answer(k, buffer, record, out, at);
-    }
-    output::reply_line(out, at, Reply::Bad)
+    sparse: Sparse,
+    pub out: Output,
 }
 
-// Answers a line, but for an empty one and one that begins with '#'.
-pub fn answer(
-    text: &[u8],
-    words: &mut [u64; 4096],
-    buffer: &mut [u64; 65536],
-    out: &mut [u8; 65536],
-    s: State,
-) -> State {
-    if text.len() == 0 {
-        return s;
+// A command that takes a list, or writes one. The others take a few numbers, and have one answer.
+#[derive(Clone, Copy, Debug, PartialEq, Eq)]
+enum Command {
+    Bits,
+    Unary,
+    Index,
+    Dump,
+    Words,
+    Builder,
+    Walk,
+    Read,
+    SumsWalk,
+    Sums,
+    Windows,
+}
+
+impl Command {
+    fn named(name: &[u8]) -> Option<Command> {
+        match name {
+            b"bits" => Some(Command::Bits),
+            b"unary" => Some(Command::Unary),
+            b"index" => Some(Command::Index),
+            b"dump" => Some(Command::Dump),
+            b"words" => Some(Command::Words),
+            b"builder" => Some(Command::Builder),
+            b"walk" => Some(Command::Walk),
+            b"read" => Some(Command::Read),
+            b"sums_walk" => Some(Command::SumsWalk),
+            b"sums" => Some(Command::Sums),
+            b"windows" => Some(Command::Windows),
+            _ => None,
+        }
     }
-    if text[0] == b'#' {
-        return s;
+}
+
+impl Console {
+    pub fn new() -> Console {
+        Console {
+            bits: Bits::new(),
+            buffer: [0; 65536],
+            record: console_record::nothing(),
+            sparse: console_sarray::nothing(),
+            out: Output::new(),
+        }
     }
-    let end = line::word_end(text, 0);
-    let name = &text[..end];
-    let k = line::place_in(
-        b"bits unary index dump words builder walk read sums_walk sums windows",
-        name,
-    );
-    if k == 0 {
-        return set(text, end, words, out, s);
+
+    // Of a line that is no command, as one of more than 65,536 bytes.
+    pub fn bad(&mut self) {
+        self.out.reply_line(Reply::Bad);
     }
-    let mut t = s;
-    if k < 4 {
-        t.at = listed(k, text, end, line::first(words, s.lent), s.len, out, s.at);
-        return t;
+
+    // The image of what is held of the record.
+    fn image(&self) -> &[u64] {
+        line::first(&self.buffer, self.record.image)
     }
-    if k == 9 {
-        return summed(text, end, buffer, out, s);
+
+    // A question over the image: of the record, of the prefix sums, or of the sparse vector.
+    fn asked(&self, name: &[u8], r: Arguments) -> Option<Reply> {
+        let image = self.image();
+        console_questions::answer(name, r, image)
+            .or_else(|| console_sums::answer(name, r, image))
+            .or_else(|| console_sarray::answer(name, r, image, self.sparse))
     }
-    if k == 10 {
-        return windowed(text, end, buffer, out, s);
+
+    // What alters what is held: of the sparse vector, or of the record, maybe from the console's bits.
+    fn altered(&mut self, name: &[u8], r: Arguments) -> Option<Reply> {
+        let words = self.bits.words();
+        let len = self.bits.len;
+        let buffer = &mut self.buffer;
+        let record = &mut self.record;
+        let reply = console_sarray::alter(name, r, words, len, buffer, record, &mut self.sparse);
+        if reply.is_some() {
+            return reply;
+        }
+        let reply = console_sums::bits::answer(name, r, words, len, buffer, record);
+        if reply.is_some() {
+            return reply;
+        }
+        console_record::answer(name, r, buffer, record)
     }
-    let r = line::numbers(text, end);
-    if k < 9 {
-        let record = s.record;
-        t.at = recorded(k, r, buffer, record, out, s.at);
-        return t;
+
+    // A command that takes a few numbers: the sections are tried in turn.
+    fn numbered(&mut self, name: &[u8], r: Arguments) -> Option<Reply> {
+        let reply = words::answer(name, r);
+        if reply.is_some() {
+            return reply;
+        }
+        let reply = self.bits.ask(name, r);
+        if reply.is_some() {
+            return reply;
+        }
+        let reply = self.bits.alter(name, r);
+        if reply.is_some() {
+            return reply;
+        }
+        let reply = self.asked(name, r);
+        if reply.is_some() {
+            return reply;
+        }
+        self.altered(name, r)
     }
-    numbered(name, r, words, buffer, out, s)
+
+    // Answers a line, but for an empty one and one that begins with '#'.
+    pub fn answer(&mut self, text: &[u8]) {
+        if text.is_empty() || text[0] == b'#' {
+            return;
+        }
+        let end = line::word_end(text, 0);
+        let name = &text[..end];
+        let r = line::numbers(text, end);
+        let bare = r.is_some_and(|r| r.n == 0);
+        match Command::named(name) {
+            Some(Command::Bits) => {
+                let reply = self.bits.set(text, end);
+                self.out.reply_line(reply);
+            }
+            Some(Command::Unary) => {
+                walk::answer(text, end, self.bits.words(), self.bits.len, &mut self.out);
+            }
+            Some(Command::Index) => match r {
+                Some(r) if r.n == 1 && r.a < 2 => {
+                    index::answer(r.a == 1, self.bits.words(), self.bits.len, &mut self.out);
+                }
+                _ => self.bad(),
+            },
+            Some(Command::Dump) if bare => self.bits.dump(&mut self.out),
+            Some(Command::Words) if bare => show::words(&self.buffer, self.record, &mut self.out),
+            Some(Command::Builder) if bare => show::builder(self.record, &mut self.out),
+            Some(Command::Dump | Command::Words | Command::Builder) => self.bad(),
+            Some(Command::Walk) => Listing::Walk.answer(
+                r,
+                line::first(&self.buffer, self.record.image),
+                &mut self.out,
+            ),
+            Some(Command::Read) => Listing::Read.answer(
+                r,
+                line::first(&self.buffer, self.record.image),
+                &mut self.out,
+            ),
+            Some(Command::SumsWalk) => console_sums::list(
+                r,
+                line::first(&self.buffer, self.record.image),
+                &mut self.out,
+            ),
+            Some(Command::Sums) => {
+                let reply = console_sums::build::answer(
+                    text,
+                    end,
+                    &mut self.buffer,
+                    &mut self.record,
+                );
+                self.out.reply_line(reply);
+            }
+            Some(Command::Windows) => {
+                let reply = windows::answer(text, end, self.image());
+                self.out.reply_line(reply);
+            }
+            None => {
+                let reply = r.and_then(|r| self.numbered(name, r)).unwrap_or(Reply::Bad);
+                self.out.reply_line(reply);
+            }
+        }
+    }
 }

@@ -1,152 +1,113 @@
 // `unary P STEP..`: a walk over the ones from P, with one answer for each step.
-ghost use Rattle.std.specs.Prelude.{◌≤◌, ◌<◌, length};
+ghost use Rattle.std.specs.Prelude.{◌≤◌, ◌<◌, length, IfSome};
 
-use bit_vectors::unary::{Started, Stepped, Unary};
-use bit_vectors::{Place, unary};
-use console_text::output::Reply;
-use console_text::{line, output};
-use decimal::Parsed;
+use bit_vectors::unary;
+use bit_vectors::unary::Unary;
+use console_text::line::word_end;
+use console_text::output::{Output, Reply};
+use console_text::reply::ToReply;
 
-// A step of the line: its kind, its number, and where it ends. The kinds are `skip1` 0, `skip0` 1, `next` 2, `position` 3,
-// and 4 for what is no step.
-#[derive(Clone, Copy)]
-struct Step {
-    pub kind: usize,
-    pub k: u64,
-    pub end: usize,
+#[derive(Clone, Copy, Debug, PartialEq, Eq)]
+enum Step {
+    Skip1(u64),
+    Skip0(u64),
+    Next,
+    Position,
 }
 
-// The number after the space at `at`, as a step of the kind.
-fn with_number(line: &[u8], at: usize, kind: usize) -> Step
+// The number after the space at `at`, and where it ends.
+fn number_at(line: &[u8], at: usize) -> Option<(u64, usize)>
     requires { at ≤ length line.now }
-    ensures at_le_end { at ≤ result.end }
-    ensures end_in_bounds { result.end ≤ length line.now }
+    ensures { IfSome result (λ p. (at < p.1) × (p.1 ≤ length line.now)) }
 {
-    if at < line.len() {
-        let start = at + 1;
-        let end = line::word_end(line, start);
-        if let Parsed::Value(k) = decimal::parse(&line[start..end]) {
-            return Step { kind, k, end };
-        }
+    if at == line.len() {
+        return None;
     }
-    Step {
-        kind: 4,
-        k: 0,
-        end: at,
-    }
+    let start = at + 1;
+    let end = word_end(line, start);
+    let k = decimal::parse(&line[start..end]).ok()?;
+    Some((k, end))
 }
 
-// The step after the space at `at`.
-fn step_at(line: &[u8], at: usize) -> Step
+// The step after the space at `at`, and where it ends.
+fn step_at(line: &[u8], at: usize) -> Option<(Step, usize)>
     requires { at < length line.now }
-    ensures at_lt_end { at < result.end }
-    ensures end_in_bounds { result.end ≤ length line.now }
+    ensures { IfSome result (λ p. (at < p.1) × (p.1 ≤ length line.now)) }
 {
     let start = at + 1;
-    let end = line::word_end(line, start);
-    let kind = line::place_in(b"skip1 skip0 next position", &line[start..end]);
-    if kind < 2 {
-        return with_number(line, end, kind);
+    let end = word_end(line, start);
+    match &line[start..end] {
+        b"skip1" => {
+            let (k, end) = number_at(line, end)?;
+            Some((Step::Skip1(k), end))
+        }
+        b"skip0" => {
+            let (k, end) = number_at(line, end)?;
+            Some((Step::Skip0(k), end))
+        }
+        b"next" => Some((Step::Next, end)),
+        b"position" => Some((Step::Position, end)),
+        _ => None,
     }
-    Step { kind, k: 0, end }
 }
 
 // Whether steps alone follow the word that ends at `end`.
 fn all_steps(line: &[u8], end: usize) -> bool {
     let mut at = end;
     while at < line.len() {
-        let s = step_at(line, at);
-        if s.kind == 4 {
+        let Some((_, next)) = step_at(line, at) else {
             return false;
-        }
-        at = s.end;
+        };
+        at = next;
     }
     true
 }
 
 // One step of the walk.
-fn taken(words: &[u64], len: usize, w: Unary, s: Step) -> Stepped {
-    let kind = s.kind;
-    match kind {
-        0 => unary::skip1(words, len, w, line::size(s.k)),
-        1 => unary::skip0(words, len, w, line::size(s.k)),
-        2 => unary::next(words, len, w),
-        _ => Stepped {
-            place: Place::At(unary::position(w)),
-            walk: w,
-        },
-    }
+fn taken(words: &[u64], len: usize, w: &mut Unary, step: Step) -> Reply {
+    let t = match step {
+        Step::Skip1(k) => unary::skip1(words, len, *w, k as usize),
+        Step::Skip0(k) => unary::skip0(words, len, *w, k as usize),
+        Step::Next => unary::next(words, len, *w),
+        Step::Position => return unary::position(*w).reply(),
+    };
+    *w = t.walk;
+    t.place.reply()
 }
 
-fn shown(out: &mut [u8; 65536], at: usize, p: Place) -> usize {
-    match p {
-        Place::At(x) => output::number(out, at, line::wide(x)),
-        Place::Nothing => output::text(out, at, b"none"),
-        Place::Refused(r) => output::refusal(out, at, r),
-    }
-}
-
-// A space between two answers.
-fn gap(out: &mut [u8; 65536], at: usize, follows: bool) -> usize {
-    if follows {
-        return output::byte(out, at, b' ');
-    }
-    at
-}
-
-// The steps after the word that ends at `end`.
-fn walked(
-    line: &[u8],
-    end: usize,
-    words: &[u64],
-    len: usize,
-    first: Unary,
-    out: &mut [u8; 65536],
-    place: usize,
-) -> usize {
+// The steps after the word that ends at `end`, with a space between their answers.
+fn walked(line: &[u8], end: usize, words: &[u64], len: usize, first: Unary, out: &mut Output) {
     let mut w = first;
-    let mut to = place;
     let mut at = end;
     while at < line.len() {
-        let s = step_at(line, at);
-        let t = taken(words, len, w, s);
-        let p = t.place;
-        w = t.walk;
-        to = gap(out, to, end < at);
-        to = shown(out, to, p);
-        at = s.end;
+        let Some((step, next)) = step_at(line, at) else {
+            break;
+        };
+        if end < at {
+            out.byte(b' ');
+        }
+        out.answer(taken(words, len, &mut w, step));
+        at = next;
     }
-    output::line_end(out, to)
+    out.line_end();
 }
 
-// The start P after the word that ends at `end`, as a `position`, or no step where something else follows.
-fn start_of(line: &[u8], end: usize) -> Step
+// The start P after the word that ends at `end`, and where it ends; None where steps alone do not follow it.
+fn start_of(line: &[u8], end: usize) -> Option<(u64, usize)>
     requires { end ≤ length line.now }
 {
-    let p = with_number(line, end, 3);
-    if all_steps(line, p.end) {
-        return p;
-    }
-    Step { kind: 4, k: 0, end }
+    number_at(line, end).filter(|p| all_steps(line, p.1))
 }
 
 // The whole command, of which `end` is the end of the first word.
-pub fn answer(
-    line: &[u8],
-    end: usize,
-    words: &[u64],
-    len: usize,
-    out: &mut [u8; 65536],
-    at: usize,
-) -> usize
+pub fn answer(line: &[u8], end: usize, words: &[u64], len: usize, out: &mut Output)
     requires { end ≤ length line.now }
 {
-    let p = start_of(line, end);
-    if p.kind == 4 {
-        return output::reply_line(out, at, Reply::Bad);
-    }
-    match unary::new(words, len, line::size(p.k)) {
-        Started::Walk(w) => walked(line, p.end, words, len, w, out, at),
-        Started::Refused(r) => output::reply_line(out, at, Reply::Refused(r)),
+    let Some((p, at)) = start_of(line, end) else {
+        return out.reply_line(Reply::Bad);
+    };
+    match unary::new(words, len, p as usize) {
+        Ok(w) => walked(line, at, words, len, w, out),
+        Err(r) => out.reply_line(Reply::Refused(r)),
     }
 }

@@ -1,38 +1,37 @@
 // The section Words: questions about one word.
-use broadword::Found;
-use console_text::line;
 use console_text::line::Arguments;
 use console_text::output::Reply;
+use console_text::reply::ToReply;
 
-fn found(f: Found) -> Reply {
-    match f {
-        Found::At(i) => Reply::Value(line::wide(i)),
-        Found::Nothing => Reply::Nothing,
+#[derive(Clone, Copy, Debug, PartialEq, Eq)]
+enum Question {
+    Popcount,
+    Lsb,
+    Msb,
+    SelectInWord,
+}
+
+impl Question {
+    fn named(name: &[u8]) -> Option<Question> {
+        match name {
+            b"popcount" => Some(Question::Popcount),
+            b"lsb" => Some(Question::Lsb),
+            b"msb" => Some(Question::Msb),
+            b"select_in_word" => Some(Question::SelectInWord),
+            _ => None,
+        }
     }
 }
 
-fn of_word(k: usize, w: u64) -> Reply {
-    match k {
-        0 => Reply::Value(line::wide(broadword::popcount(w))),
-        1 => found(broadword::lsb(w)),
-        _ => found(broadword::msb(w)),
-    }
-}
-
-// One number but for the last, which takes two.
-pub fn answer(name: &[u8], r: Arguments) -> Reply {
-    let k = line::place_in(b"popcount lsb msb select_in_word", name);
-    if k < 3 {
-        if r.n != 1 {
-            return Reply::Bad;
-        }
-        return of_word(k, r.a);
-    }
-    if k == 3 {
-        if r.n != 2 {
-            return Reply::Bad;
-        }
-        return found(broadword::select_in_word(r.a, line::size(r.b)));
-    }
-    Reply::Unknown
+// None: the name is none of the questions'.
+pub fn answer(name: &[u8], r: Arguments) -> Option<Reply> {
+    let question = Question::named(name)?;
+    let reply = match (question, r.n) {
+        (Question::Popcount, 1) => broadword::popcount(r.a).reply(),
+        (Question::Lsb, 1) => broadword::lsb(r.a).reply(),
+        (Question::Msb, 1) => broadword::msb(r.a).reply(),
+        (Question::SelectInWord, 2) => broadword::select_in_word(r.a, r.b as usize).reply(),
+        _ => Reply::Bad,
+    };
+    Some(reply)
 }

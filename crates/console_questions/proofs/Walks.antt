@@ -8,14 +8,10 @@ use lib.Dec.{ltb}
 use lib.ListN.{length}
 use borrow.Author.Tests.{ltb-false, le-ltb}
 use Rattle.errors.specs.Answer.{Answer, none, refused}
-use Rattle.errors.specs.Refusal.{number_of}
-use Rattle.errors.specs.declared.Refusal.{Refusal}
-use Rattle.elias_fano.specs.declared.image.Opened.{Opened}
-use Rattle.elias_fano.specs.declared.image.Opened.TheVariants as opened
-use Rattle.elias_fano.specs.declared.image.Parts.{Parts}
-use Rattle.elias_fano.specs.Accept.{times, accepted, parts_of, parts, unopened, of_opened, open_of}
+use Rattle.elias_fano.proofs.Answers.{refused_by_lem}
+use Rattle.elias_fano.specs.Accept.{times, accepted, parts_of, unopened, open_of}
 use Rattle.elias_fano.specs.Ask.{Next, nth, ask, query}
-use Rattle.elias_fano_walk.specs.Walking.{Walked, value_step_of}
+use Rattle.elias_fano_walk.specs.Walking.{value_step_of}
 use Rattle.console_text.specs.Gathered.{Gathered, with_byte, with_refusal, with_answer}
 use Rattle.console_questions.specs.Questions.{with_each, with_answers, nexts_from, nexts_of, walk_of}
 
@@ -75,34 +71,29 @@ module _ (T : List ℕ) (g : Gathered) (k : ℕ) where
   unfolding with_answers nexts_from
   all_done count e = ap (λ (x : ℕ). with_answers g (nexts_from T k x)) e
 
-  -- the next answer a, and those after it from the number n on, where the step leaves the walk
-  module _ (a : Answer) (n : ℕ) (to : Gathered) (count d : ℕ) (some : count ≡ suc d) (stepped : record { answer = a; number = n } ≡ value_step_of T k) where
-    given : a ≡ nth T k
+  -- the next answer, and those after it from where the step leaves the walk
+  module _ (to : Gathered) (n count d : ℕ) (some : count ≡ suc d) (left : n ≡ (value_step_of T k).number) where
+    at : n ≡ after
     unfolding value_step_of
-    given = ap (λ (x : Walked). x.answer) stepped
+    at = left
 
-    left : n ≡ after
+    pub rest_more : to ≡ with_answer (with_byte g 32) (value_step_of T k).answer → with_each g (nexts_from T k count) ≡ with_each to (nexts_from T n d)
     unfolding value_step_of
-    left = ap (λ (x : Walked). x.number) stepped
-
-    pub rest_more : to ≡ with_answer (with_byte g 32) a → with_each g (nexts_from T k count) ≡ with_each to (nexts_from T n d)
     rest_more e =
         ap (λ (x : ℕ). with_each g (nexts_from T k x)) some
         ∙ each_more d
-        ∙ sym (ap₂ (λ (h : Gathered) (m : ℕ). with_each h (nexts_from T m d)) (e ∙ ap (with_answer (with_byte g 32)) given) left)
+        ∙ sym (ap₂ (λ (h : Gathered) (m : ℕ). with_each h (nexts_from T m d)) e at)
 
-    pub all_more : to ≡ with_answer g a → with_answers g (nexts_from T k count) ≡ with_each to (nexts_from T n d)
+    pub all_more : to ≡ with_answer g (value_step_of T k).answer → with_answers g (nexts_from T k count) ≡ with_each to (nexts_from T n d)
+    unfolding value_step_of
     all_more e =
         ap (λ (x : ℕ). with_answers g (nexts_from T k x)) some
         ∙ first_more d
-        ∙ sym (ap₂ (λ (h : Gathered) (m : ℕ). with_each h (nexts_from T m d)) (e ∙ ap (with_answer g) given) left)
+        ∙ sym (ap₂ (λ (h : Gathered) (m : ℕ). with_each h (nexts_from T m d)) e at)
 
 -- an image that is refused
-module _ (i : List ℕ) (k count : ℕ) (g : Gathered) where
-  refused_by_lem : (b : Bool) (x : ℕ) (p : Parts) (other : Gathered) → unopened x ≡ cond b (parts p) (unopened 7) → with_refusal g x ≡ cond b other (with_refusal g 7)
-  refused_by_lem true x p other e = let z : ◌≡◌ {A = ℕ} 0 1 = cc in absurd (omega arith)
-  refused_by_lem false x p other e = let d : x ≡ 7 = cc in ap (with_refusal g) d
-
-  pub walk_refused : (r : Opened) (x : Refusal) → of_opened r ≡ open_of i → r ≡ opened.Refused x → with_refusal g (number_of x) ≡ walk_of i k count g
-  unfolding open_of walk_of with_answer
-  walk_refused r x er e = refused_by_lem (accepted i) (number_of x) (parts_of i) (with_answers g (nexts_of i k 0 count)) (sym (ap of_opened e) ∙ er)
+pub walk_refused : (i : List ℕ) (k count : ℕ) (g : Gathered) (x : ℕ) → unopened x ≡ open_of i → with_refusal g x ≡ walk_of i k count g
+unfolding open_of walk_of
+walk_refused i k count g x e =
+    let h = refused_by_lem (accepted i) x (parts_of i) e in
+    ap (with_refusal g) h.1 ∙ sym (ap (λ (b : Bool). cond b (with_answers g (nexts_of i k 0 count)) (with_refusal g 7)) h.0)

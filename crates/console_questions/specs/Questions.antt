@@ -1,66 +1,79 @@
 -- The console's questions over an image: what each says, or what it writes. i is the image, r the question's numbers, g what has gathered
 -- before. Assumes nothing.
-use Rattle.std.specs.Prelude.{Bool, cond, ◌&&◌, List, [], ◌∷◌, ℕ, zero, suc, eqb, ltb, leb, get_or, drop, replicate}
+use Rattle.std.specs.Prelude.{Bool, cond, ◌&&◌, List, [], ◌∷◌, ℕ, zero, suc, eqb, ltb, leb, get_or, drop, replicate, Option, Some, None, codes}
 use Rattle.errors.specs.Answer.{Answer, value, none, done, refused, Outcome}
 use Rattle.elias_fano.specs.Accept.{Opening, parts, unopened, open_of, accepted}
-use Rattle.elias_fano.specs.Ask.{Select, Delta, Rank, Predecessor, Successor, Binsearch, BinsearchRange, Next, Len, Universe, HasRank, Question, nth, query, read_from_of}
+use Rattle.elias_fano.specs.Ask.{Select, Delta, Rank, Predecessor, Successor, Binsearch, BinsearchRange, Next, Len, Universe, HasRank, nth, query, read_from_of}
 use Rattle.elias_fano.specs.Steps.{limit_of}
 use Rattle.weekly_windows.specs.Windows.{count_of}
 use Rattle.console_text.specs.declared.line.Arguments.{Arguments}
 use Rattle.console_text.specs.Gathered.{Gathered, with_byte, with_number, with_list, with_answer, with_says}
-use Rattle.console_text.specs.Line.{words_in, place_among, numbers_from, values_of}
+use Rattle.console_text.specs.Line.{same_text, numbers_from, values_of}
 use Rattle.console_text.specs.Says.{Says, answers, bad, unknown}
+use Rattle.console_questions.specs.declared.Command.{Command}
+use Rattle.console_questions.specs.declared.Command.TheVariants as command
+use Rattle.console_questions.specs.declared.Listing.{Listing}
+use Rattle.console_questions.specs.declared.Listing.TheVariants as listing
 
--- ---- one answer, by the places in the list of commands
+-- ---- one answer
 
 -- an opening says only that it is done
 abbrev pub open_says : Opening → Answer
 open_says (parts p) = done
 open_says (unopened k) = refused k
 
--- `open` 0, `len` 1, `universe` 2, `has_rank`
-unfoldable pub header_of : ℕ → List ℕ → Says
-header_of k i =
-    cond (eqb k 0) (answers (open_says (open_of i)))
-    (cond (eqb k 1) (answers (query i Len))
-    (cond (eqb k 2) (answers (query i Universe)) (answers (query i HasRank))))
+-- `open`, `len`, `universe`, `has_rank`, `select K`, `delta K`, `rank T`, `predecessor V`, `successor V`, `search V`, `search_range A B V`, and
+-- `limit U N C`, which needs no image
+abbrev pub asked_of : Command → Arguments → List ℕ → Answer
+asked_of command.Open r i = open_says (open_of i)
+asked_of command.Len r i = query i Len
+asked_of command.Universe r i = query i Universe
+asked_of command.HasRank r i = query i HasRank
+asked_of command.Select r i = query i (Select r.a)
+asked_of command.Delta r i = query i (Delta r.a)
+asked_of command.Rank r i = query i (Rank r.a)
+asked_of command.Predecessor r i = query i (Predecessor r.a)
+asked_of command.Successor r i = query i (Successor r.a)
+asked_of command.Search r i = query i (Binsearch r.a)
+asked_of command.SearchRange r i = query i (BinsearchRange r.a r.b r.c)
+asked_of command.Limit r i = limit_of r.a r.b (eqb r.c 1)
 
--- `select K` 4, `delta K` 5, `rank T` 6, `predecessor V` 7, `successor V` 8, `search V`
-unfoldable pub numbered_of : ℕ → ℕ → Question
-numbered_of k a =
-    cond (eqb k 4) (Select a)
-    (cond (eqb k 5) (Delta a)
-    (cond (eqb k 6) (Rank a)
-    (cond (eqb k 7) (Predecessor a)
-    (cond (eqb k 8) (Successor a) (Binsearch a)))))
+-- how many numbers each takes, and which of them is a choice
+abbrev pub fits_of : Command → Arguments → Bool
+fits_of command.Open r = eqb r.n 0
+fits_of command.Len r = eqb r.n 0
+fits_of command.Universe r = eqb r.n 0
+fits_of command.HasRank r = eqb r.n 0
+fits_of command.Select r = eqb r.n 1
+fits_of command.Delta r = eqb r.n 1
+fits_of command.Rank r = eqb r.n 1
+fits_of command.Predecessor r = eqb r.n 1
+fits_of command.Successor r = eqb r.n 1
+fits_of command.Search r = eqb r.n 1
+fits_of command.SearchRange r = eqb r.n 3
+fits_of command.Limit r = eqb r.n 3 && ltb r.c 2
 
-abbrev pub one_of : ℕ → ℕ → List ℕ → Says
-one_of k a i = answers (query i (numbered_of k a))
+abbrev pub command_named : List ℕ → Option Command
+command_named name =
+    cond (same_text name (codes "open")) (Some command.Open)
+    (cond (same_text name (codes "len")) (Some command.Len)
+    (cond (same_text name (codes "universe")) (Some command.Universe)
+    (cond (same_text name (codes "has_rank")) (Some command.HasRank)
+    (cond (same_text name (codes "select")) (Some command.Select)
+    (cond (same_text name (codes "delta")) (Some command.Delta)
+    (cond (same_text name (codes "rank")) (Some command.Rank)
+    (cond (same_text name (codes "predecessor")) (Some command.Predecessor)
+    (cond (same_text name (codes "successor")) (Some command.Successor)
+    (cond (same_text name (codes "search")) (Some command.Search)
+    (cond (same_text name (codes "search_range")) (Some command.SearchRange)
+    (cond (same_text name (codes "limit")) (Some command.Limit) None)))))))))))
 
--- and `search_range A B V`
-unfoldable pub ask_of : ℕ → Arguments → List ℕ → Says
-ask_of k r i = cond (ltb k 4) (header_of k i) (cond (ltb k 10) (one_of k r.a i) (answers (query i (BinsearchRange r.a r.b r.c))))
-
--- `limit U N C` needs no image
-unfoldable pub limit_says : Arguments → Says
-limit_says r = cond (eqb r.n 3 && ltb r.c 2) (answers (limit_of r.a r.b (eqb r.c 1))) bad
-
--- "open len universe has_rank select delta rank predecessor successor search search_range limit"
-unfoldable pub commands : List ℕ
-commands = 111 ∷ 112 ∷ 101 ∷ 110 ∷ 32 ∷ 108 ∷ 101 ∷ 110 ∷ 32 ∷ 117 ∷ 110 ∷ 105 ∷ 118 ∷ 101 ∷ 114 ∷ 115 ∷ 101 ∷ 32 ∷ 104 ∷ 97 ∷ 115 ∷ 95 ∷ 114 ∷ 97 ∷ 110 ∷ 107 ∷ 32 ∷ 115 ∷ 101 ∷ 108 ∷ 101 ∷ 99 ∷ 116 ∷ 32 ∷ 100 ∷ 101 ∷ 108 ∷ 116 ∷ 97 ∷ 32 ∷ 114 ∷ 97 ∷ 110 ∷ 107 ∷ 32 ∷ 112 ∷ 114 ∷ 101 ∷ 100 ∷ 101 ∷ 99 ∷ 101 ∷ 115 ∷ 115 ∷ 111 ∷ 114 ∷ 32 ∷ 115 ∷ 117 ∷ 99 ∷ 99 ∷ 101 ∷ 115 ∷ 115 ∷ 111 ∷ 114 ∷ 32 ∷ 115 ∷ 101 ∷ 97 ∷ 114 ∷ 99 ∷ 104 ∷ 32 ∷ 115 ∷ 101 ∷ 97 ∷ 114 ∷ 99 ∷ 104 ∷ 95 ∷ 114 ∷ 97 ∷ 110 ∷ 103 ∷ 101 ∷ 32 ∷ 108 ∷ 105 ∷ 109 ∷ 105 ∷ 116 ∷ []
-
--- how many numbers each takes that is asked of the image
-abbrev pub takes_of : ℕ → ℕ
-takes_of k = cond (ltb k 4) 0 (cond (ltb k 10) 1 3)
-
-unfoldable pub command_of : ℕ → Arguments → List ℕ → Says
-command_of k r i =
-    cond (ltb 11 k) unknown
-    (cond (eqb k 11) (limit_says r)
-    (cond (eqb r.n (takes_of k)) (ask_of k r i) bad))
+abbrev pub command_of : Option Command → Arguments → List ℕ → Says
+command_of None r i = unknown
+command_of (Some c) r i = cond (fits_of c r) (answers (asked_of c r i)) bad
 
 abbrev pub answer_of : List ℕ → Arguments → List ℕ → Says
-answer_of name r i = command_of (place_among (words_in commands) name) r i
+answer_of name r i = command_of (command_named name) r i
 
 -- ---- `walk K COUNT`
 
@@ -104,28 +117,39 @@ with_read o g = with_words o.answer o.words g
 abbrev pub read_of : List ℕ → ℕ → ℕ → Gathered → Gathered
 read_of i k count g = with_read (read_from_of i k (replicate count 0)) g
 
--- ---- both as a line: `walk` 6, `read`
+-- ---- both as a line
 
 -- two numbers, of which the second is a count that fits
 abbrev pub fits_list_of : Arguments → Bool
-fits_list_of r = r.fit && (eqb r.n 2 && leb r.b 4096)
+fits_list_of r = eqb r.n 2 && leb r.b 4096
 
-unfoldable pub listed_of : ℕ → Arguments → List ℕ → Gathered → Gathered
-listed_of k r i g = cond (fits_list_of r) (cond (eqb k 6) (walk_of i r.a r.b g) (read_of i r.a r.b g)) (with_says g bad)
+abbrev pub list_of : Listing → List ℕ → ℕ → ℕ → Gathered → Gathered
+list_of listing.Walk i k count g = walk_of i k count g
+list_of listing.Read i k count g = read_of i k count g
 
-abbrev pub line_of : ℕ → Arguments → List ℕ → Gathered → Gathered
-line_of k r i g = with_byte (listed_of k r i g) 10
+-- where all the words after the name are numbers
+abbrev pub listed_of : Listing → Option Arguments → List ℕ → Gathered → Gathered
+listed_of l None i g = with_says g bad
+listed_of l (Some r) i g = cond (fits_list_of r) (list_of l i r.a r.b g) (with_says g bad)
+
+abbrev pub line_of : Listing → Option Arguments → List ℕ → Gathered → Gathered
+line_of l r i g = with_byte (listed_of l r i g) 10
 
 -- ---- `windows S E W..`
 
 -- a span, and no more words than a line may list
 abbrev pub fits_windows_of : Arguments → Bool
-fits_windows_of r = r.fit && (leb 2 r.n && leb r.n 4098)
+fits_windows_of r = leb 2 r.n && leb r.n 4098
 
 -- of the numbers xs: the span, and the words of the windows
 abbrev pub count_says : List ℕ → List ℕ → Says
 count_says i xs = answers (count_of i (drop 2 xs) (get_or xs 0 0) (get_or xs 1 0))
 
+-- of the numbers r of a line, whose words after the name are fs
+abbrev pub spans_of : Option Arguments → List (List ℕ) → List ℕ → Says
+spans_of None fs i = bad
+spans_of (Some r) fs i = cond (fits_windows_of r) (count_says i (values_of fs)) bad
+
 -- of the words fs after the name
-unfoldable pub windows_of : List (List ℕ) → List ℕ → Says
-windows_of fs i = cond (fits_windows_of (numbers_from 0 0 0 0 0 fs)) (count_says i (values_of fs)) bad
+abbrev pub windows_of : List (List ℕ) → List ℕ → Says
+windows_of fs i = spans_of (numbers_from 0 0 0 0 0 fs) fs i

@@ -4,23 +4,17 @@ ghost use Rattle.console_text.specs.Line.{fields, values_of};
 ghost use Rattle.console_text.specs.Says.{says_of};
 ghost use Rattle.console_questions.specs.Questions.{fits_windows_of, count_says, windows_of};
 
-use crate::ask;
 use console_text::line;
 use console_text::line::Arguments;
 use console_text::output::Reply;
+use console_text::reply::ToReply;
 use weekly_windows::count;
 
 // A span, and no more words than a line may list.
 fn fits(r: Arguments) -> bool
     ensures { result ≡ fits_windows_of r }
 {
-    if !r.fit {
-        return false;
-    }
-    if r.n < 2 {
-        return false;
-    }
-    r.n <= 4098
+    2 <= r.n && r.n <= 4098
 }
 
 // The span, and the words after it.
@@ -28,7 +22,7 @@ fn counted(numbers: &[u64], image: &[u64]) -> Reply
     requires { 2 ≤ length numbers.now }
     ensures { says_of result ≡ count_says image.now numbers.now }
 {
-    ask::number(count(image, &numbers[2..], numbers[0], numbers[1]))
+    count(image, &numbers[2..], numbers[0], numbers[1]).reply()
 }
 
 // Of the n numbers after the word that ends at `end`, by way of `numbers`.
@@ -44,10 +38,11 @@ fn stored(text: &[u8], end: usize, n: usize, numbers: &mut [u64], image: &[u64])
 pub fn answer(text: &[u8], end: usize, image: &[u64]) -> Reply
     ensures { says_of result ≡ windows_of (fields (drop end text.now)) image.now }
 {
-    let r = line::numbers(text, end);
-    if !fits(r) {
-        return Reply::Bad;
+    match line::numbers(text, end) {
+        Some(r) if fits(r) => {
+            let mut numbers = [0u64; 4098];
+            stored(text, end, r.n, &mut numbers, image)
+        }
+        _ => Reply::Bad,
     }
-    let mut numbers = [0u64; 4098];
-    stored(text, end, r.n, &mut numbers, image)
 }

@@ -1,2 +1,1 @@
--- Laws of the definitions of `specs/`.
-pub mod Telling
+-- No law is needed beside the answers.

@@ -1,21 +1,18 @@
 -- The console's section Record, but for the questions: what each command says, and what it leaves: what is held and every word of the buffer. w are the
 -- buffer's words, s is what is held, r the command's numbers. Assumes nothing.
-use Rattle.std.specs.Prelude.{Bool, cond, ◌&&◌, ◌||◌, List, [], ◌∷◌, ◌++◌, ℕ, eqb, ltb, length, take, drop, set, replicate}
+use Rattle.std.specs.Prelude.{Bool, cond, ◌&&◌, List, [], ◌∷◌, ◌++◌, ℕ, eqb, ltb, length, take, drop, set, replicate, Option, Some, None, codes, option_map}
 use Rattle.errors.specs.Answer.{Answer, value, none, done, refused}
 use Rattle.elias_fano.specs.declared.builder.Builder.{Builder}
-use Rattle.elias_fano.specs.declared.builder.Pushed.{Pushed}
-use Rattle.elias_fano.specs.declared.builder.Pushed.TheVariants as pushed
-use Rattle.elias_fano.specs.declared.builder.Built.{Built}
-use Rattle.elias_fano.specs.declared.builder.Built.TheVariants as built
 use Rattle.elias_fano.specs.Made.{Made, builder, nobody}
 use Rattle.elias_fano.specs.Steps.{new_of, push_of, build_of, resume_of}
 use Rattle.console_text.specs.declared.line.Arguments.{Arguments}
-use Rattle.console_text.specs.declared.output.Reply.{Reply}
-use Rattle.console_text.specs.declared.output.Reply.TheVariants as reply
-use Rattle.console_text.specs.Line.{words_in, place_among}
-use Rattle.console_text.specs.Says.{Says, answers, bad, unknown, says_of}
+use Rattle.console_text.specs.Line.{same_text}
+use Rattle.console_text.specs.Says.{Says, answers, bad, unknown}
 use Rattle.console_record.specs.declared.Record.{Record}
-use Rattle.console_record.specs.declared.Told.{Told}
+use Rattle.console_record.specs.declared.Command.{Command}
+use Rattle.console_record.specs.declared.Command.TheVariants.{Forge, Image, Buffer, Within}
+use Rattle.console_record.specs.declared.alter.Change.{Change}
+use Rattle.console_record.specs.declared.alter.Change.TheVariants.{Poke, Start, Reading, Finish, Resume}
 
 -- what a command says and leaves
 pub record Turn : Type 0 where
@@ -25,12 +22,6 @@ pub record Turn : Type 0 where
 
 abbrev pub turn : Says → Record → List ℕ → Turn
 turn a s w = record { says = a; held = s; buffer = w }
-
-abbrev pub turn_of : Told → List ℕ → Turn
-turn_of t w = turn (says_of t.reply) t.«record» w
-
-abbrev pub told : Reply → Record → Told
-told a s = record { reply = a; «record» = s }
 
 -- ---- what is held
 
@@ -44,31 +35,24 @@ abbrev pub with_builder : Record → Builder → Record
 with_builder s b = record { lent = s.lent; image = s.image; builder = b }
 
 -- `forge U N M LAST`
-abbrev pub forge_of : Arguments → Record → Told
-forge_of r s = told reply.Done (with_builder s (builder r.a r.b r.c r.d))
+abbrev pub forge_of : Arguments → Record → List ℕ → Turn
+forge_of r s w = turn (answers done) (with_builder s (builder r.a r.b r.c r.d)) w
 
 -- `image L`
-abbrev pub set_image : ℕ → Record → Told
-set_image n s = cond (ltb s.lent n) (told reply.Bad s) (told reply.Done (with_image s n))
-
-unfoldable pub hold_of : ℕ → Arguments → Record → Told
-hold_of k r s = cond (eqb k 0) (forge_of r s) (set_image r.a s)
+abbrev pub image_of : ℕ → Record → List ℕ → Turn
+image_of n s w = cond (ltb s.lent n) (turn bad s w) (turn (answers done) (with_image s n) w)
 
 -- `buffer W V`
-unfoldable pub lend_of : ℕ → ℕ → Record → List ℕ → Turn
+abbrev pub lend_of : ℕ → ℕ → Record → List ℕ → Turn
 lend_of n x s w = cond (ltb (length w) n) (turn bad s w) (turn (answers done) (lending n) (replicate n x ++ drop n w))
 
 -- ---- what writes into the lent words w
 
 -- `poke I V`
-unfoldable pub poke_of : ℕ → ℕ → Record → List ℕ → Turn
+abbrev pub poke_of : ℕ → ℕ → Record → List ℕ → Turn
 poke_of i x s w = cond (ltb i (length w)) (turn (answers done) s (set w i x)) (turn bad s w)
 
 -- a builder that is handed back is held from then on
-abbrev pub told_pushed : Pushed → Record → Told
-told_pushed (pushed.Accepted b) s = told reply.Done (with_builder s b)
-told_pushed (pushed.Refused e) s = told (reply.Refused e) s
-
 abbrev pub builder_after : Answer → Builder → Record → Record
 builder_after done b s = with_builder s b
 builder_after (value x) b s = s
@@ -79,10 +63,6 @@ abbrev pub of_push : Record → Made → Turn
 of_push s m = turn (answers m.answer) (builder_after m.answer m.builder s) m.words
 
 -- the words of a finish are the image from then on
-abbrev pub told_built : Built → Record → Told
-told_built (built.Words n) s = told (reply.Value n) (with_image s n)
-told_built (built.Refused e) s = told (reply.Refused e) s
-
 abbrev pub image_after : Answer → Record → Record
 image_after (value n) s = with_image s n
 image_after none s = s
@@ -92,50 +72,62 @@ image_after (refused e) s = s
 abbrev pub of_build : Record → Made → Turn
 of_build s m = turn (answers m.answer) (image_after m.answer s) m.words
 
--- `poke` 3, `start U N` 4, `reading T` 5, `finish C` 6, `resume`
-unfoldable pub alter_of : ℕ → Arguments → Record → List ℕ → Turn
-alter_of k r s w =
-    cond (eqb k 3) (poke_of r.a r.b s w)
-    (cond (eqb k 4) (of_push s (new_of r.a r.b w))
-    (cond (eqb k 5) (of_push s (push_of s.builder r.a w))
-    (cond (eqb k 6) (of_build s (build_of s.builder (eqb r.a 1) w)) (of_push s (resume_of s.builder w)))))
+-- `poke`, `start U N`, `reading T`, `finish C`, `resume`
+abbrev pub change_of : Change → Arguments → Record → List ℕ → Turn
+change_of Poke r s w = poke_of r.a r.b s w
+change_of Start r s w = of_push s (new_of r.a r.b w)
+change_of Reading r s w = of_push s (push_of s.builder r.a w)
+change_of Finish r s w = of_build s (build_of s.builder (eqb r.a 1) w)
+change_of Resume r s w = of_push s (resume_of s.builder w)
 
--- the same over the whole buffer: the words that are not lent stay
+-- what f does with the lent words, over the whole buffer: the words that are not lent stay
 abbrev pub above : List ℕ → Turn → Turn
 above later l = turn l.says l.held (l.buffer ++ later)
 
-unfoldable pub within_of : ℕ → Arguments → Record → List ℕ → Turn
-within_of k r s w = cond (ltb (length w) s.lent) (turn bad s w) (above (drop s.lent w) (alter_of k r s (take s.lent w)))
+abbrev pub within_of : (Record → List ℕ → Turn) → Record → List ℕ → Turn
+within_of f s w = cond (ltb (length w) s.lent) (turn bad s w) (above (drop s.lent w) (f s (take s.lent w)))
 
--- ---- all commands, by their places in the list
+-- ---- all commands
 
--- "forge image buffer poke start reading finish resume"
-unfoldable pub commands : List ℕ
-commands = 102 ∷ 111 ∷ 114 ∷ 103 ∷ 101 ∷ 32 ∷ 105 ∷ 109 ∷ 97 ∷ 103 ∷ 101 ∷ 32 ∷ 98 ∷ 117 ∷ 102 ∷ 102 ∷ 101 ∷ 114 ∷ 32 ∷ 112 ∷ 111 ∷ 107 ∷ 101 ∷ 32 ∷ 115 ∷ 116 ∷ 97 ∷ 114 ∷ 116 ∷ 32 ∷ 114 ∷ 101 ∷ 97 ∷ 100 ∷ 105 ∷ 110 ∷ 103 ∷ 32 ∷ 102 ∷ 105 ∷ 110 ∷ 105 ∷ 115 ∷ 104 ∷ 32 ∷ 114 ∷ 101 ∷ 115 ∷ 117 ∷ 109 ∷ 101 ∷ []
+abbrev pub change_named : List ℕ → Option Change
+change_named name =
+    cond (same_text name (codes "poke")) (Some Poke)
+    (cond (same_text name (codes "start")) (Some Start)
+    (cond (same_text name (codes "reading")) (Some Reading)
+    (cond (same_text name (codes "finish")) (Some Finish)
+    (cond (same_text name (codes "resume")) (Some Resume) None))))
+
+abbrev pub command_named : List ℕ → Option Command
+command_named name =
+    cond (same_text name (codes "forge")) (Some Forge)
+    (cond (same_text name (codes "image")) (Some Image)
+    (cond (same_text name (codes "buffer")) (Some Buffer) (option_map (λ c. Within c) (change_named name))))
 
 -- how many numbers each takes, and which of them is a choice
-unfoldable pub fits_of : ℕ → Arguments → Bool
-fits_of k r =
-    cond (eqb k 0) (eqb r.n 4)
-    (cond (eqb k 1 || eqb k 5) (eqb r.n 1)
-    (cond (eqb k 6) (eqb r.n 1 && ltb r.a 2)
-    (cond (eqb k 7) (eqb r.n 0) (eqb r.n 2))))
+abbrev pub fits_of : Command → Arguments → Bool
+fits_of Forge r = eqb r.n 4
+fits_of Image r = eqb r.n 1
+fits_of Buffer r = eqb r.n 2
+fits_of (Within Poke) r = eqb r.n 2
+fits_of (Within Start) r = eqb r.n 2
+fits_of (Within Reading) r = eqb r.n 1
+fits_of (Within Finish) r = eqb r.n 1 && ltb r.a 2
+fits_of (Within Resume) r = eqb r.n 0
 
-unfoldable pub done_of : ℕ → Arguments → Record → List ℕ → Turn
-done_of k r s w =
-    cond (ltb k 2) (turn_of (hold_of k r s) w)
-    (cond (eqb k 2) (lend_of r.a r.b s w) (within_of k r s w))
+abbrev pub done_of : Command → Arguments → Record → List ℕ → Turn
+done_of Forge r s w = forge_of r s w
+done_of Image r s w = image_of r.a s w
+done_of Buffer r s w = lend_of r.a r.b s w
+done_of (Within c) r s w = within_of (change_of c r) s w
 
-unfoldable pub command_of : ℕ → Arguments → Record → List ℕ → Turn
-command_of k r s w = cond (ltb 7 k) (turn unknown s w) (cond (fits_of k r) (done_of k r s w) (turn bad s w))
+abbrev pub command_of : Option Command → Arguments → Record → List ℕ → Turn
+command_of None r s w = turn unknown s w
+command_of (Some c) r s w = cond (fits_of c r) (done_of c r s w) (turn bad s w)
 
 abbrev pub answer_of : List ℕ → Arguments → Record → List ℕ → Turn
-answer_of name r s w = command_of (place_among (words_in commands) name) r s w
+answer_of name r s w = command_of (command_named name) r s w
 
--- ---- lists: `words` 4, `builder`
+-- ---- lists: `builder`
 
 abbrev pub numbers_in : Record → List ℕ
 numbers_in s = s.builder.universe ∷ s.builder.num_vals ∷ s.builder.num_pushed ∷ s.builder.last ∷ []
-
-unfoldable pub shown_of : ℕ → Record → List ℕ → List ℕ
-shown_of k s w = cond (eqb k 4) (take s.lent w) (numbers_in s)

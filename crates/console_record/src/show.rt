@@ -1,41 +1,26 @@
-// The commands that write a list.
+// The commands that write a list, each a whole line.
 ghost use Rattle.std.specs.Prelude.{◌≡◌, take};
-ghost use Rattle.console_text.specs.Gathered.{gathered, with_byte, with_numbers};
-ghost use Rattle.console_record.specs.Section.{numbers_in, shown_of};
+ghost use Rattle.console_text.specs.Gathered.{with_byte, with_numbers};
+ghost use Rattle.console_text.specs.Held.{held};
+ghost use Rattle.console_record.specs.Section.{numbers_in};
 
 use crate::Record;
-use console_text::{line, output};
+use console_text::line;
+use console_text::output::Output;
 
 // `words`
-fn words(buffer: &[u64], n: usize, out: &mut [u8; 65536], at: usize) -> usize
-    ensures { gathered result out.new ≡ with_numbers (gathered at out.old) (take n buffer.now) }
+pub fn words(buffer: &[u64], s: Record, out: &mut Output)
+    ensures { held out.new ≡ with_byte (with_numbers (held out.old) (take s.lent buffer.now)) 10 }
 {
-    output::numbers(out, at, line::first(buffer, n))
+    out.numbers(line::first(buffer, s.lent));
+    out.line_end();
 }
 
 // `builder`
-fn builder(s: Record, out: &mut [u8; 65536], at: usize) -> usize
-    ensures { gathered result out.new ≡ with_numbers (gathered at out.old) (numbers_in s) }
+pub fn builder(s: Record, out: &mut Output)
+    ensures { held out.new ≡ with_byte (with_numbers (held out.old) (numbers_in s)) 10 }
 {
     let b = s.builder;
-    let numbers = [b.universe, b.num_vals, b.num_pushed, b.last];
-    output::numbers(out, at, &numbers)
-}
-
-// `words` 4, `builder` 5.
-fn list(k: usize, buffer: &[u64], s: Record, out: &mut [u8; 65536], at: usize) -> usize
-    ensures { gathered result out.new ≡ with_numbers (gathered at out.old) (shown_of k s buffer.now) }
-{
-    if k == 4 {
-        return words(buffer, s.lent, out, at);
-    }
-    builder(s, out, at)
-}
-
-// The same as a whole line.
-pub fn answer(k: usize, buffer: &[u64], s: Record, out: &mut [u8; 65536], at: usize) -> usize
-    ensures { gathered result out.new ≡ with_byte (with_numbers (gathered at out.old) (shown_of k s buffer.now)) 10 }
-{
-    let to = list(k, buffer, s, out, at);
-    output::line_end(out, to)
+    out.numbers(&[b.universe, b.num_vals, b.num_pushed, b.last]);
+    out.line_end();
 }

@@ -1,34 +1,45 @@
 -- The console's sparse vector: what each command says, and what it leaves. i is the image, v the length and choice that are held, s what is held of the record,
 -- r the command's numbers, w are the buffer's words. Assumes nothing.
-use Rattle.std.specs.Prelude.{Bool, not, cond, ◌&&◌, List, [], ◌∷◌, ℕ, eqb, ltb}
+use Rattle.std.specs.Prelude.{Bool, cond, ◌&&◌, List, ℕ, eqb, ltb, Option, Some, None, codes}
 use Rattle.errors.specs.Answer.{value, none, done, refused}
 use Rattle.sarray.specs.Ask.{SparseQuestion, Access, Rank1, Select1, Predecessor1, Successor1, sparse_query}
 use Rattle.sarray.specs.Build.{sparse_from_bits}
 use Rattle.console_text.specs.declared.line.Arguments.{Arguments}
-use Rattle.console_text.specs.Line.{words_in, place_among}
-use Rattle.console_text.specs.Says.{Says, answers, bad, unknown, says_of}
+use Rattle.console_text.specs.Line.{same_text}
+use Rattle.console_text.specs.Says.{Says, answers, bad, unknown}
 use Rattle.console_record.specs.declared.Record.{Record}
 use Rattle.console_record.specs.Section.{Turn}
 use Rattle.console_sums.specs.Commands.{whole_within, fits_choice_of}
 use Rattle.console_sarray.specs.declared.Sparse.{Sparse}
-use Rattle.console_sarray.specs.declared.SparseTold.{SparseTold}
+use Rattle.console_sarray.specs.declared.Query.{Query}
+use Rattle.console_sarray.specs.declared.Query.TheVariants as query
+use Rattle.console_sarray.specs.declared.Command.{Command}
+use Rattle.console_sarray.specs.declared.Command.TheVariants.{Set, FromBits}
 
 -- ---- the questions
 
--- "sarray_access sarray_rank1 sarray_select1 sarray_predecessor1 sarray_successor1"
-unfoldable pub questions : List ℕ
-questions = 115 ∷ 97 ∷ 114 ∷ 114 ∷ 97 ∷ 121 ∷ 95 ∷ 97 ∷ 99 ∷ 99 ∷ 101 ∷ 115 ∷ 115 ∷ 32 ∷ 115 ∷ 97 ∷ 114 ∷ 114 ∷ 97 ∷ 121 ∷ 95 ∷ 114 ∷ 97 ∷ 110 ∷ 107 ∷ 49 ∷ 32 ∷ 115 ∷ 97 ∷ 114 ∷ 114 ∷ 97 ∷ 121 ∷ 95 ∷ 115 ∷ 101 ∷ 108 ∷ 101 ∷ 99 ∷ 116 ∷ 49 ∷ 32 ∷ 115 ∷ 97 ∷ 114 ∷ 114 ∷ 97 ∷ 121 ∷ 95 ∷ 112 ∷ 114 ∷ 101 ∷ 100 ∷ 101 ∷ 99 ∷ 101 ∷ 115 ∷ 115 ∷ 111 ∷ 114 ∷ 49 ∷ 32 ∷ 115 ∷ 97 ∷ 114 ∷ 114 ∷ 97 ∷ 121 ∷ 95 ∷ 115 ∷ 117 ∷ 99 ∷ 99 ∷ 101 ∷ 115 ∷ 115 ∷ 111 ∷ 114 ∷ 49 ∷ []
+abbrev pub query_named : List ℕ → Option Query
+query_named name =
+    cond (same_text name (codes "sarray_access")) (Some query.Access)
+    (cond (same_text name (codes "sarray_rank1")) (Some query.Rank1)
+    (cond (same_text name (codes "sarray_select1")) (Some query.Select1)
+    (cond (same_text name (codes "sarray_predecessor1")) (Some query.Predecessor1)
+    (cond (same_text name (codes "sarray_successor1")) (Some query.Successor1) None))))
 
--- by its place in the list
-abbrev pub question_at : ℕ → ℕ → SparseQuestion
-question_at k p = cond (eqb k 0) (Access p) (cond (eqb k 1) (Rank1 p) (cond (eqb k 2) (Select1 p) (cond (eqb k 3) (Predecessor1 p) (Successor1 p))))
+abbrev pub question_of : Query → ℕ → SparseQuestion
+question_of query.Access p = Access p
+question_of query.Rank1 p = Rank1 p
+question_of query.Select1 p = Select1 p
+question_of query.Predecessor1 p = Predecessor1 p
+question_of query.Successor1 p = Successor1 p
 
 -- each takes one number
-unfoldable pub asked_of : ℕ → Arguments → List ℕ → Sparse → Says
-asked_of k r i v = cond (ltb 4 k) unknown (cond (not (eqb r.n 1)) bad (answers (sparse_query v.len v.rank i (question_at k r.a))))
+abbrev pub asked_of : Option Query → Arguments → List ℕ → Sparse → Says
+asked_of None r i v = unknown
+asked_of (Some q) r i v = cond (eqb r.n 1) (answers (sparse_query v.len v.rank i (question_of q r.a))) bad
 
 abbrev pub answer_of : List ℕ → Arguments → List ℕ → Sparse → Says
-answer_of name r i v = asked_of (place_among (words_in questions) name) r i v
+answer_of name r i v = asked_of (query_named name) r i v
 
 -- ---- what alters what is held
 
@@ -42,9 +53,6 @@ pub record SparseTurn : Type 0 where
 abbrev pub sparse_turn : Says → Record → Sparse → List ℕ → SparseTurn
 sparse_turn a s v w = record { says = a; held = s; vector = v; buffer = w }
 
-abbrev pub sparse_turn_of : SparseTold → List ℕ → SparseTurn
-sparse_turn_of t w = sparse_turn (says_of t.reply) t.«record» t.sparse w
-
 abbrev pub sparse : ℕ → Bool → Sparse
 sparse len c = record { len = len; rank = c }
 
@@ -52,7 +60,7 @@ abbrev pub fits_set_of : Arguments → Bool
 fits_set_of r = eqb r.n 2 && ltb r.b 2
 
 -- `sarray LEN C`: nothing is checked
-unfoldable pub set_of : Arguments → Record → Sparse → List ℕ → SparseTurn
+abbrev pub set_of : Arguments → Record → Sparse → List ℕ → SparseTurn
 set_of r s v w = cond (fits_set_of r) (sparse_turn (answers done) s (sparse r.a (eqb r.b 1)) w) (sparse_turn bad s v w)
 
 -- an accepted call sets the length and the choice
@@ -68,15 +76,18 @@ abbrev pub with_vector : Turn → Sparse → Sparse → SparseTurn
 with_vector t next v = sparse_turn t.says t.held (vector_after t.says next v) t.buffer
 
 -- `sarray_from_bits C`, of the bits ws with the length len
-unfoldable pub built_of : Arguments → List ℕ → ℕ → Record → Sparse → List ℕ → SparseTurn
+abbrev pub built_of : Arguments → List ℕ → ℕ → Record → Sparse → List ℕ → SparseTurn
 built_of r ws len s v w = cond (fits_choice_of r) (with_vector (whole_within (sparse_from_bits ws len (eqb r.a 1)) s w) (sparse len (eqb r.a 1)) v) (sparse_turn bad s v w)
 
--- "sarray sarray_from_bits"
-unfoldable pub commands : List ℕ
-commands = 115 ∷ 97 ∷ 114 ∷ 114 ∷ 97 ∷ 121 ∷ 32 ∷ 115 ∷ 97 ∷ 114 ∷ 114 ∷ 97 ∷ 121 ∷ 95 ∷ 102 ∷ 114 ∷ 111 ∷ 109 ∷ 95 ∷ 98 ∷ 105 ∷ 116 ∷ 115 ∷ []
+abbrev pub command_named : List ℕ → Option Command
+command_named name =
+    cond (same_text name (codes "sarray")) (Some Set)
+    (cond (same_text name (codes "sarray_from_bits")) (Some FromBits) None)
 
-unfoldable pub command_of : ℕ → Arguments → List ℕ → ℕ → Record → Sparse → List ℕ → SparseTurn
-command_of k r ws len s v w = cond (ltb 1 k) (sparse_turn unknown s v w) (cond (eqb k 0) (set_of r s v w) (built_of r ws len s v w))
+abbrev pub command_of : Option Command → Arguments → List ℕ → ℕ → Record → Sparse → List ℕ → SparseTurn
+command_of None r ws len s v w = sparse_turn unknown s v w
+command_of (Some Set) r ws len s v w = set_of r s v w
+command_of (Some FromBits) r ws len s v w = built_of r ws len s v w
 
 abbrev pub alter_of : List ℕ → Arguments → List ℕ → ℕ → Record → Sparse → List ℕ → SparseTurn
-alter_of name r ws len s v w = command_of (place_among (words_in commands) name) r ws len s v w
+alter_of name r ws len s v w = command_of (command_named name) r ws len s v w

@@ -2,32 +2,27 @@
 #![tactic(auto)]
 
 ghost use Rattle.std.specs.Prelude.{◌≡◌, false, List, ℕ};
-ghost use Rattle.bit_vectors.specs.Queries.{of_bit, of_count, of_place};
 ghost use Rattle.sarray.specs.Ask.{sparse_query};
-ghost use Rattle.console_text.specs.Says.{answers, says_of};
-ghost use Rattle.console_sarray.specs.Commands.{question_at, answer_of, sparse as sparse_with, sparse_turn_of, fits_set_of, set_of, vector_after, built_of, alter_of};
+ghost use Rattle.sarray.specs.Build.{sparse_from_bits};
+ghost use Rattle.console_text.specs.Says.{answers, says_of, says_if};
+ghost use Rattle.console_record.specs.declared.Record.{Record};
+ghost use Rattle.console_sums.specs.Commands.{of_whole};
+ghost use Rattle.console_sarray.specs.Commands.{query_named, question_of, answer_of, sparse as sparse_with, sparse_turn, fits_set_of, set_of, built_of, command_named, alter_of};
 
-use bit_vectors::{Bit, Count, Place};
-use console_record::Record;
-use console_sums::bits;
-use console_text::line;
-use console_text::line::Arguments;
+use console_record::lent::{Lent, within};
+use console_record::{Record, alter};
+use console_sums::bits::{Bits, fits_choice};
+use console_text::line::{Arguments, same};
 use console_text::output::Reply;
+use console_text::reply::ToReply;
+use sarray::build::from_bits;
 use sarray::queries;
 
 // What is held besides the image.
-#[derive(Clone, Copy)]
+#[derive(Clone, Copy, Debug, PartialEq, Eq)]
 pub struct Sparse {
     pub len: usize,
     pub rank: bool,
-}
-
-// The answer, and what is held from then on.
-#[derive(Clone, Copy)]
-pub struct SparseTold {
-    pub reply: Reply,
-    pub record: Record,
-    pub sparse: Sparse,
 }
 
 // Before the first `sarray`.
@@ -40,70 +35,63 @@ pub fn nothing() -> Sparse
     }
 }
 
-// The answers of bits, plain or sparse, as replies.
-pub fn bit(b: Bit) -> Reply
-    ensures { says_of result ≡ answers (of_bit b) }
-{
-    match b {
-        Bit::Is(x) => {
-            let set = x as u64;
-            Reply::Value(set)
+// A question, of one number.
+#[derive(Clone, Copy, Debug, PartialEq, Eq)]
+pub enum Query {
+    Access,
+    Rank1,
+    Select1,
+    Predecessor1,
+    Successor1,
+}
+
+impl Query {
+    // One test after another: of a match over these names the check does not prove the arms of long names.
+    pub fn named(name: &[u8]) -> Option<Query>
+        ensures { result ≡ query_named name.now }
+    {
+        if same(name, b"sarray_access") {
+            return Some(Query::Access);
         }
-        Bit::Nothing => Reply::Nothing,
-        Bit::Refused(e) => Reply::Refused(e),
+        if same(name, b"sarray_rank1") {
+            return Some(Query::Rank1);
+        }
+        if same(name, b"sarray_select1") {
+            return Some(Query::Select1);
+        }
+        if same(name, b"sarray_predecessor1") {
+            return Some(Query::Predecessor1);
+        }
+        if same(name, b"sarray_successor1") {
+            return Some(Query::Successor1);
+        }
+        None
+    }
+
+    fn asked(self, pos: usize, image: &[u64], v: Sparse) -> Reply
+        ensures { says_of result ≡ answers (sparse_query v.len v.rank image.now (question_of self pos)) }
+    {
+        let len = v.len;
+        let rank = v.rank;
+        match self {
+            Query::Access => queries::access(image, len, rank, pos).reply(),
+            Query::Rank1 => queries::rank1(image, len, rank, pos).reply(),
+            Query::Select1 => queries::select1(image, len, rank, pos).reply(),
+            Query::Predecessor1 => queries::predecessor1(image, len, rank, pos).reply(),
+            Query::Successor1 => queries::successor1(image, len, rank, pos).reply(),
+        }
     }
 }
 
-pub fn count(n: Count) -> Reply
-    ensures { says_of result ≡ answers (of_count n) }
+// None: the name is none of the questions'.
+pub fn answer(name: &[u8], r: Arguments, image: &[u64], v: Sparse) -> Option<Reply>
+    ensures { says_if result ≡ answer_of name.now r image.now v }
 {
-    match n {
-        Count::Ones(k) => Reply::Value(line::wide(k)),
-        Count::Nothing => Reply::Nothing,
-        Count::Refused(e) => Reply::Refused(e),
-    }
-}
-
-pub fn place(p: Place) -> Reply
-    ensures { says_of result ≡ answers (of_place p) }
-{
-    match p {
-        Place::At(i) => Reply::Value(line::wide(i)),
-        Place::Nothing => Reply::Nothing,
-        Place::Refused(e) => Reply::Refused(e),
-    }
-}
-
-// The question with the place k in the list.
-fn asked(k: usize, pos: usize, image: &[u64], v: Sparse) -> Reply
-    ensures { says_of result ≡ answers (sparse_query v.len v.rank image.now (question_at k pos)) }
-{
-    let len = v.len;
-    let rank = v.rank;
-    match k {
-        0 => bit(queries::access(image, len, rank, pos)),
-        1 => count(queries::rank1(image, len, rank, pos)),
-        2 => place(queries::select1(image, len, rank, pos)),
-        3 => place(queries::predecessor1(image, len, rank, pos)),
-        _ => place(queries::successor1(image, len, rank, pos)),
-    }
-}
-
-// A question takes one number. That it is in form, `r.fit`, is tested by the caller.
-pub fn answer(name: &[u8], r: Arguments, image: &[u64], v: Sparse) -> Reply
-    ensures { says_of result ≡ answer_of name.now r image.now v }
-{
-    let k = line::place_in(
-        b"sarray_access sarray_rank1 sarray_select1 sarray_predecessor1 sarray_successor1",
-        name,
-    );
-    if 4 < k {
-        return Reply::Unknown;
-    }
+    let query = Query::named(name)?;
     if r.n != 1 {
-        return Reply::Bad;
+        return Some(Reply::Bad);
     }
-    asked(k, line::size(r.a), image, v)
+    Some(query.asked(r.a as usize, image, v))
 }
 
 // Two numbers, the second a choice.
@@ -114,91 +102,93 @@ fn fits_set(r: Arguments) -> bool
 }
 
 // `sarray LEN C`
-fn set(r: Arguments, s: Record, v: Sparse) -> SparseTold
-    ensures { (w : List ℕ) → sparse_turn_of result w ≡ set_of r s v w }
+fn set(r: Arguments, v: &mut Sparse) -> Reply
+    ensures { (s : Record) (w : List ℕ) → sparse_turn (says_of result) s v.new w ≡ set_of r s v.old w }
 {
-    if fits_set(r) {
-        return SparseTold {
-            reply: Reply::Done,
-            record: s,
-            sparse: Sparse {
-                len: line::size(r.a),
-                rank: r.b == 1,
-            },
-        };
+    if !fits_set(r) {
+        return Reply::Bad;
     }
-    SparseTold {
-        reply: Reply::Bad,
-        record: s,
-        sparse: v,
+    *v = Sparse {
+        len: r.a as usize,
+        rank: r.b == 1,
+    };
+    Reply::Done
+}
+
+// The vector of these bits.
+#[derive(Clone, Copy)]
+struct SparseBits<'a> {
+    bits: Bits<'a>,
+}
+
+impl<'a> Lent for SparseBits<'a> {
+    ghost leaves = { λ b s w. of_whole s (sparse_from_bits b.bits.words.now b.bits.len b.bits.rank w) };
+
+    fn run(self, words: &mut [u64], s: &mut Record) -> Reply {
+        let b = self.bits;
+        alter::built(from_bits(b.words, b.len, b.rank, &mut *words), s)
     }
 }
 
-// The vector of an accepted call, else the one that is held.
-fn held_after(reply: Reply, next: Sparse, v: Sparse) -> Sparse
-    ensures { result ≡ vector_after (says_of reply) next v }
-{
-    match reply {
-        Reply::Value(_) => next,
-        Reply::Nothing => v,
-        Reply::Done => v,
-        Reply::Refused(_) => v,
-        Reply::Bad => v,
-        Reply::Unknown => v,
-    }
-}
-
-// `sarray_from_bits C`
+// `sarray_from_bits C`: the vector of an accepted call is held from then on.
 fn built(
     r: Arguments,
-    bits: &[u64],
+    words: &[u64],
     len: usize,
     buffer: &mut [u64],
-    s: Record,
-    v: Sparse,
-) -> SparseTold
-    ensures { sparse_turn_of result buffer.new ≡ built_of r bits.now len s v buffer.old }
+    s: &mut Record,
+    v: &mut Sparse,
+) -> Reply
+    ensures { sparse_turn (says_of result) s.new v.new buffer.new ≡ built_of r words.now len s.old v.old buffer.old }
 {
-    if !bits::fits_choice(r) {
-        return SparseTold {
-            reply: Reply::Bad,
-            record: s,
-            sparse: v,
-        };
+    if !fits_choice(r) {
+        return Reply::Bad;
     }
     let rank = r.a == 1;
-    let told = bits::within(bits, len, rank, true, &mut *buffer, s);
-    let reply = told.reply;
-    let record = told.record;
-    SparseTold {
-        reply,
-        record,
-        sparse: held_after(reply, Sparse { len, rank }, v),
+    let bits = Bits { words, len, rank };
+    let reply = within(SparseBits { bits }, buffer, s);
+    if let Reply::Value(_) = reply {
+        *v = Sparse { len, rank };
     }
+    reply
 }
 
 // What sets the vector, or writes it.
+#[derive(Clone, Copy, Debug, PartialEq, Eq)]
+pub enum Command {
+    Set,
+    FromBits,
+}
+
+impl Command {
+    // One test after another: of a match over these names the check does not prove the arms of long names.
+    pub fn named(name: &[u8]) -> Option<Command>
+        ensures { result ≡ command_named name.now }
+    {
+        if same(name, b"sarray") {
+            return Some(Command::Set);
+        }
+        if same(name, b"sarray_from_bits") {
+            return Some(Command::FromBits);
+        }
+        None
+    }
+}
+
+// None: the name is none of the two.
 pub fn alter(
     name: &[u8],
     r: Arguments,
-    bits: &[u64],
+    words: &[u64],
     len: usize,
     buffer: &mut [u64],
-    s: Record,
-    v: Sparse,
-) -> SparseTold
-    ensures { sparse_turn_of result buffer.new ≡ alter_of name.now r bits.now len s v buffer.old }
+    s: &mut Record,
+    v: &mut Sparse,
+) -> Option<Reply>
+    ensures { sparse_turn (says_if result) s.new v.new buffer.new ≡ alter_of name.now r words.now len s.old v.old buffer.old }
 {
-    let k = line::place_in(b"sarray sarray_from_bits", name);
-    if 1 < k {
-        return SparseTold {
-            reply: Reply::Unknown,
-            record: s,
-            sparse: v,
-        };
+    match Command::named(name)? {
+        Command::Set => Some(set(r, v)),
+        Command::FromBits => Some(built(r, words, len, buffer, s, v)),
     }
-    if k == 0 {
-        return set(r, s, v);
-    }
-    built(r, bits, len, &mut *buffer, s, v)
 }

@@ -1,44 +1,30 @@
-// `from_bits C`: the record of the console's bits. `within` writes their sparse vector too.
+// `from_bits C`: the record of the console's bits.
 ghost use Rattle.std.specs.Prelude.{◌≡◌};
-ghost use Rattle.console_record.specs.Section.{turn_of};
-ghost use Rattle.console_sums.specs.Commands.{of_whole, whole_within, bits_call, fits_choice_of, from_bits_answer};
+ghost use Rattle.elias_fano_from_bits.specs.FromBits.{from_bits_of};
+ghost use Rattle.console_text.specs.Says.{says_if};
+ghost use Rattle.console_record.specs.Section.{turn};
+ghost use Rattle.console_sums.specs.Commands.{of_whole, fits_choice_of, from_bits_answer};
 
-use console_record::{Record, Told, alter};
-use console_text::line;
-use console_text::line::Arguments;
+use console_record::lent::{Lent, within};
+use console_record::{Record, alter};
+use console_text::line::{Arguments, same};
 use console_text::output::Reply;
 use elias_fano_from_bits::build::from_bits;
-use sarray::build;
 
-// Into the lent words, which are the image from then on.
-fn built(bits: &[u64], len: usize, rank: bool, sparse: bool, words: &mut [u64], s: Record) -> Told
-    ensures { turn_of result words.new ≡ of_whole s (bits_call sparse bits.now len rank words.old) }
-{
-    if sparse {
-        return alter::built(build::from_bits(bits, len, rank, &mut *words), s);
-    }
-    alter::built(from_bits(bits, len, rank, &mut *words), s)
+// The first `len` bits of the words, and whether the record has the rank index.
+#[derive(Clone, Copy)]
+pub struct Bits<'a> {
+    pub words: &'a [u64],
+    pub len: usize,
+    pub rank: bool,
 }
 
-// Into the whole buffer, of which the first words are lent.
-pub fn within(
-    bits: &[u64],
-    len: usize,
-    rank: bool,
-    sparse: bool,
-    buffer: &mut [u64],
-    s: Record,
-) -> Told
-    ensures { turn_of result buffer.new ≡ whole_within (bits_call sparse bits.now len rank) s buffer.old }
-{
-    let n = s.lent;
-    if buffer.len() < n {
-        return Told {
-            reply: Reply::Bad,
-            record: s,
-        };
+impl<'a> Lent for Bits<'a> {
+    ghost leaves = { λ b s w. of_whole s (from_bits_of b.words.now b.len b.rank w) };
+
+    fn run(self, words: &mut [u64], s: &mut Record) -> Reply {
+        alter::built(from_bits(self.words, self.len, self.rank, &mut *words), s)
     }
-    built(bits, len, rank, sparse, &mut buffer[..n], s)
 }
 
 // One number, a choice.
@@ -48,28 +34,23 @@ pub fn fits_choice(r: Arguments) -> bool
     r.n == 1 && r.a < 2
 }
 
-// That the numbers are in form, `r.fit`, is tested by the caller.
+// None: the name is another.
 pub fn answer(
     name: &[u8],
     r: Arguments,
-    bits: &[u64],
+    words: &[u64],
     len: usize,
     buffer: &mut [u64],
-    s: Record,
-) -> Told
-    ensures { turn_of result buffer.new ≡ from_bits_answer name.now r bits.now len s buffer.old }
+    s: &mut Record,
+) -> Option<Reply>
+    ensures { turn (says_if result) s.new buffer.new ≡ from_bits_answer name.now r words.now len s.old buffer.old }
 {
-    if line::place_in(b"from_bits", name) != 0 {
-        return Told {
-            reply: Reply::Unknown,
-            record: s,
-        };
+    if !same(name, b"from_bits") {
+        return None;
     }
-    if fits_choice(r) {
-        return within(bits, len, r.a == 1, false, &mut *buffer, s);
+    if !fits_choice(r) {
+        return Some(Reply::Bad);
     }
-    Told {
-        reply: Reply::Bad,
-        record: s,
-    }
+    let rank = r.a == 1;
+    Some(within(Bits { words, len, rank }, buffer, s))
 }

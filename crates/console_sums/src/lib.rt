@@ -3,64 +3,85 @@
 #![tactic(auto)]
 
 ghost use Rattle.std.specs.Prelude.{◌≡◌};
-ghost use Rattle.console_text.specs.Gathered.{gathered};
-ghost use Rattle.console_text.specs.Says.{says_of};
-ghost use Rattle.console_sums.specs.Commands.{answer_of, fits_count_of, listed_of, line_of};
+ghost use Rattle.console_text.specs.Held.{held};
+ghost use Rattle.console_text.specs.Says.{answers, says_of, says_if};
+ghost use Rattle.console_sums.specs.Commands.{command_named, fits_of, asked_of, answer_of, fits_count_of, line_of};
 
 pub mod bits;
 pub mod build;
 mod walk;
 
-use console_questions::ask;
-use console_text::line::Arguments;
-use console_text::output::Reply;
-use console_text::{line, output};
+use console_text::line::{Arguments, same};
+use console_text::output::{Output, Reply};
+use console_text::reply::ToReply;
 use prefix_summed_elias_fano::access;
 
-// `sums_len` 0, `sums_access P` 1: each takes as many numbers. That they are in form, `r.fit`, is tested by the caller.
-pub fn answer(name: &[u8], r: Arguments, image: &[u64]) -> Reply
-    ensures { says_of result ≡ answer_of name.now r image.now }
+// `sums_len` and `sums_access P`.
+#[derive(Clone, Copy, Debug, PartialEq, Eq)]
+pub enum Command {
+    Len,
+    Access,
+}
+
+impl Command {
+    // One test after another: of a match over these names the check does not prove the arms of long names.
+    pub fn named(name: &[u8]) -> Option<Command>
+        ensures { result ≡ command_named name.now }
+    {
+        if same(name, b"sums_len") {
+            return Some(Command::Len);
+        }
+        if same(name, b"sums_access") {
+            return Some(Command::Access);
+        }
+        None
+    }
+
+    // How many numbers it takes.
+    fn fits(self, r: Arguments) -> bool
+        ensures { result ≡ fits_of self r }
+    {
+        match self {
+            Command::Len => r.n == 0,
+            Command::Access => r.n == 1,
+        }
+    }
+
+    fn asked(self, r: Arguments, image: &[u64]) -> Reply
+        ensures { says_of result ≡ answers (asked_of self r image.now) }
+    {
+        match self {
+            Command::Len => access::len(image).reply(),
+            Command::Access => access::access(image, r.a as usize).reply(),
+        }
+    }
+}
+
+// None: the name is none of the two.
+pub fn answer(name: &[u8], r: Arguments, image: &[u64]) -> Option<Reply>
+    ensures { says_if result ≡ answer_of name.now r image.now }
 {
-    let k = line::place_in(b"sums_len sums_access", name);
-    if 1 < k {
-        return Reply::Unknown;
+    let command = Command::named(name)?;
+    if !command.fits(r) {
+        return Some(Reply::Bad);
     }
-    if r.n != k {
-        return Reply::Bad;
-    }
-    if k == 0 {
-        return ask::number(access::len(image));
-    }
-    ask::value(access::access(image, line::size(r.a)))
+    Some(command.asked(r, image))
 }
 
 // One number, a count that fits.
 fn fits_count(r: Arguments) -> bool
     ensures { result ≡ fits_count_of r }
 {
-    if !r.fit {
-        return false;
-    }
-    if r.n == 1 {
-        return r.a <= 4096;
-    }
-    false
+    r.n == 1 && r.a <= 4096
 }
 
-// `sums_walk COUNT`
-fn listed(r: Arguments, image: &[u64], out: &mut [u8; 65536], at: usize) -> usize
-    ensures { gathered result out.new ≡ listed_of r image.now (gathered at out.old) }
+// `sums_walk COUNT` as a whole line, where the words after the name are numbers.
+pub fn list(r: Option<Arguments>, image: &[u64], out: &mut Output)
+    ensures { held out.new ≡ line_of r image.now (held out.old) }
 {
-    if !fits_count(r) {
-        return output::answer(out, at, Reply::Bad);
+    match r {
+        Some(r) if fits_count(r) => walk::answer(image, r.a as usize, out),
+        _ => out.answer(Reply::Bad),
     }
-    walk::answer(image, line::size(r.a), out, at)
-}
-
-// The same as a whole line.
-pub fn list(r: Arguments, image: &[u64], out: &mut [u8; 65536], at: usize) -> usize
-    ensures { gathered result out.new ≡ line_of r image.now (gathered at out.old) }
-{
-    let to = listed(r, image, out, at);
-    output::line_end(out, to)
+    out.line_end();
 }

@@ -6,19 +6,22 @@ use native.Mathlib.Numerals.{add-one}
 use native.Mathlib.Omega.{arith}
 use lib.ListN.{length, take, drop, get_or, set, drop_of_length-le}
 use lib.Seq.{drop-cons, take_all}
-use borrow.Author.Tests.{lt-ltb, le-ltb}
-use Rattle.decimal.specs.Decimal.{left, write_of}
-use Rattle.decimal.specs.declared.Written.{Written}
-use Rattle.console_text.specs.Gathered.{Gathered, gathered, with_byte, with_text, room_at, end_after, of_left, with_number, with_list, with_numbers}
+use lib.Dec.{ltb, leb}
+use mathlib.Core.Bool.{Bool, true, false, cond}
+use borrow.Author.Tests.{lt-ltb, le-ltb, ltb-true, ltb-false}
+use Rattle.decimal.specs.Decimal.{Left, left, write_of, text_of, over}
+use Rattle.std.proofs.lemmas.Option.{none-some}
+use Rattle.decimal.proofs.Writing.{text_short}
+use Rattle.std.specs.Prelude.{Option, Some, None, unwrap_or}
+use Rattle.console_text.specs.Gathered.{Gathered, gathered, with_byte, with_text, room_at, with_room, of_left, with_number, with_list, with_numbers}
 
-module _ (k : ℕ) (l : List ℕ) (b : ℕ) where
-  pub byte_more : k < 65536 → with_byte (gathered k l) b ≡ gathered (k + 1) (set l k b)
-  unfolding with_byte
-  byte_more h = simp (lt-ltb k 65536 h)
-
-  pub byte_full : 65536 ≤ k → with_byte (gathered k l) b ≡ gathered 1 (set l 0 b)
-  unfolding with_byte
-  byte_full h = simp (le-ltb k 65536 h)
+pub byte_put : (g h : Gathered) (b : ℕ) → g.at ≤ 65536 → h ≡ with_room 1 g → gathered (h.at + 1) (set h.bytes h.at b) ≡ with_byte g b
+unfolding with_byte
+byte_put g h b i e = ap (λ (j : Gathered). gathered (j.at + 1) (set j.bytes j.at b)) e ∙ by (ltb g.at 65536) refl
+  where
+    by : (t : Bool) → ltb g.at 65536 ≡ t → gathered (room_at 1 g.at + 1) (set g.bytes (room_at 1 g.at) b) ≡ cond t (gathered (g.at + 1) (set g.bytes g.at b)) (gathered 1 (set g.bytes 0 b))
+    by true f = let l : g.at ≤ 65535 = omega (arith, ltb-true g.at 65536 f) in simp (le-ltb 65535 g.at l)
+    by false f = let l : 65535 < g.at = omega (arith, ltb-false g.at 65536 f) in simp (lt-ltb 65535 g.at l)
 
 module _ (g : Gathered) (s : List ℕ) (i : ℕ) where
   pub text_more : i < length s → with_text g (drop i s) ≡ with_text (with_byte g (get_or s i 0)) (drop (i + 1) s)
@@ -37,17 +40,19 @@ module _ (g : Gathered) (s : List ℕ) (i : ℕ) where
   unfolding with_list
   list_done h = rw (drop_of_length-le s h)
 
-module _ (k : ℕ) where
-  pub room_front : 65516 < k → room_at k ≡ 0
-  room_front h = simp (lt-ltb 65516 k h)
-
-  pub room_here : k ≤ 65516 → room_at k ≡ k
-  room_here h = simp (le-ltb 65516 k h)
-
--- what a write of x at `to` leaves, o, with its answer w
-pub number_written : (k x : ℕ) (l o : List ℕ) (to : ℕ) (w : Written) → to ≡ room_at k → left w o ≡ write_of x l to → gathered (end_after to w) o ≡ with_number (gathered k l) x
+-- what a write of x where there is room leaves, o, with its answer w
+pub number_written : (g h : Gathered) (x : ℕ) (o : List ℕ) (w : Option ℕ) → h ≡ with_room 20 g → left w o ≡ write_of x h.bytes h.at → gathered (unwrap_or w h.at) o ≡ with_number g x
 unfolding with_number
-number_written k x l o to w e f = ap (of_left to) f ∙ ap (λ (j : ℕ). of_left j (write_of x l j)) e
+number_written g h x o w e f = ap (of_left h.at) f ∙ ap (λ (j : Gathered). of_left j.at (write_of x j.bytes j.at)) e
+
+-- a write where there is room ends within the buffer
+pub written_within : (x : ℕ) (l : List ℕ) (at e : ℕ) (o : List ℕ) → at + 20 ≤ 65536 → left (Some e) o ≡ write_of x l at → e ≤ 65536
+unfolding write_of
+written_within x l at e o r h = by (leb (at + length (text_of x)) (length l)) (ap (λ (f : Left). f.answer) h)
+  where
+    by : (b : Bool) → Some e ≡ (cond b (left (Some (at + length (text_of x))) (over (text_of x) l at)) (left None l)).answer → e ≤ 65536
+    by true k = let d : e ≡ at + length (text_of x) = ap (λ (o : Option ℕ). unwrap_or o 0) k in let m = text_short x in omega arith
+    by false k = absurd (none-some e (sym k))
 
 pub numbers_none : (g : Gathered) (xs : List ℕ) → length xs ≡ 0 → with_numbers g xs ≡ g
 unfolding with_numbers

@@ -1,8 +1,8 @@
 -- Laws of a line that is read from the left. Assumes nothing.
-use mathlib.Core.Path.{◌≡◌, refl, sym, ap, ap₂, ◌∙◌}
-use mathlib.Core.Bool.{Bool, true, false, cond}
+use mathlib.Core.Path.{subst, ◌≡◌, refl, sym, ap, ap₂, ◌∙◌}
+use mathlib.Core.Bool.{Bool, true, false}
 use mathlib.Core.List.{List, [], ◌∷◌}
-use Prim.Native.Nat.{ℕ, suc, ◌+◌, ◌-◌, ◌≤◌, ◌<◌}
+use Prim.Native.Nat.{ℕ, zero, suc, ◌+◌, ◌-◌, ◌≤◌, ◌<◌}
 use native.Mathlib.Nat.{add-zero}
 use native.Mathlib.Numerals.{add-one}
 use native.Mathlib.Omega.{arith}
@@ -11,25 +11,29 @@ use lib.ListN.{length, take, drop, get_or, set, length-drop, drop_of_length-le}
 use lib.Seq.{sets, drop-cons, drop-drop, sets-eq, take_at}
 use borrow.Author.Tests.{eq-eqb, ne_eqb}
 use Rattle.decimal.specs.Decimal.{parse_of}
-use Rattle.decimal.specs.declared.Parsed.{Parsed}
-use Rattle.decimal.specs.declared.Parsed.TheVariants.{Value, OutOfForm, TooLarge}
+use Rattle.decimal.specs.declared.ParseError.{ParseError}
+use Rattle.std.specs.Result.{result_ok}
+use Rattle.std.proofs.lemmas.Option.{none-some}
+use Rattle.std.specs.Prelude.{Option, Some, None, Result, Ok, Err, IfSome, MatchOption, unwrap_or, ◌≢◌}
 use Rattle.console_text.specs.declared.line.Arguments.{Arguments}
-use Rattle.console_text.specs.Line.{up_to, grow, words_in, same_text, place_among, split, fields, numbers_of, no_numbers, numbers_from, if_value, if_at, or_zero, values_of}
+use Rattle.console_text.specs.Line.{up_to, grow, words_in, same_text, place_among, split, fields, numbers_of, numbers_from, if_value, if_at, or_zero, values_of}
 
-module _ (t : List ℕ) (b i : ℕ) where
-  -- the byte stands at i
-  pub before_here : i < length t → get_or t i 0 ≡ b → up_to b (drop i t) ≡ 0
-  unfolding up_to
-  before_here h e = rw (drop-cons t i 0) (simp (eq-eqb (get_or t i 0) b e))
+-- the byte stands at i, and nowhere before
+up_to_at : (t : List ℕ) (b i : ℕ) → i < length t → get_or t i 0 ≡ b → ((k : ℕ) → k < i → get_or t k 0 ≢ b) → up_to b t ≡ i
+unfolding up_to
+up_to_at [] b i h e f = absurd (omega arith)
+up_to_at (x ∷ t) b zero h e f = simp (eq-eqb x b e)
+up_to_at (x ∷ t) b (suc i) h e f = simp (ne_eqb x b (f 0 (omega arith))) (ap suc (up_to_at t b i (omega arith) e (λ k j. f (suc k) (omega arith))))
 
-  -- it does not
-  pub before_more : i < length t → (get_or t i 0 ≡ b → ⊥) → up_to b (drop i t) ≡ suc (up_to b (drop (i + 1) t))
-  unfolding up_to
-  before_more h e = rw (add-one, drop-cons t i 0) (simp (ne_eqb (get_or t i 0) b e))
+-- it stands nowhere
+up_to_end : (t : List ℕ) (b : ℕ) → ((k : ℕ) → k < length t → get_or t k 0 ≢ b) → up_to b t ≡ length t
+unfolding up_to
+up_to_end [] b f = refl
+up_to_end (x ∷ t) b f = simp (ne_eqb x b (f 0 (omega arith))) (ap suc (up_to_end t b (λ k j. f (suc k) (omega arith))))
 
-  pub before_end : length t ≤ i → up_to b (drop i t) ≡ 0
-  unfolding up_to
-  before_end h = rw (drop_of_length-le t h)
+pub first_found : (t : List ℕ) (b : ℕ) (o : Option ℕ) → MatchOption o ((k : ℕ) → k < length t → get_or t k 0 ≢ b) (λ i. (i < length t) × (get_or t i 0 ≡ b) × ((k : ℕ) → k < i → get_or t k 0 ≢ b)) → unwrap_or o (length t) ≡ up_to b t
+first_found t b None h = sym (up_to_end t b h)
+first_found t b (Some i) h = sym (up_to_at t b i h.0 h.1 h.2)
 
 -- ---- words
 
@@ -88,38 +92,15 @@ pub place_end : (t name : List ℕ) (at : ℕ) → length t ≤ at → place_amo
 unfolding place_among words_in
 place_end t name at h = rw (drop_of_length-le t h)
 
--- ---- texts, byte by byte
-
-pub same_long : (a b : List ℕ) → (length a ≡ length b → ⊥) → same_text a b ≡ false
-unfolding same_text
-same_long [] [] h = absurd (h refl)
-same_long [] (y ∷ b) h = refl
-same_long (x ∷ a) [] h = refl
-same_long (x ∷ a) (y ∷ b) h = rest (eqb x y) (same_long a b (λ e. h (ap suc e)))
-  where
-    rest : (c : Bool) → same_text a b ≡ false → cond c (same_text a b) false ≡ false
-    rest true f = f
-    rest false f = refl
-
-module _ (a b : List ℕ) (i : ℕ) where
-  pub same_more : i < length a → i < length b → get_or a i 0 ≡ get_or b i 0 → same_text (drop i a) (drop i b) ≡ same_text (drop (i + 1) a) (drop (i + 1) b)
-  unfolding same_text
-  same_more h k e = rw (add-one, drop-cons a i 0, drop-cons b i 0) (simp (eq-eqb (get_or a i 0) (get_or b i 0) e))
-
-  pub same_not : i < length a → i < length b → (get_or a i 0 ≡ get_or b i 0 → ⊥) → same_text (drop i a) (drop i b) ≡ false
-  unfolding same_text
-  same_not h k e = rw (drop-cons a i 0, drop-cons b i 0) (simp (ne_eqb (get_or a i 0) (get_or b i 0) e))
-
-  pub same_done : length a ≤ i → length b ≤ i → same_text (drop i a) (drop i b) ≡ true
-  unfolding same_text
-  same_done h k = rw (drop_of_length-le a h, drop_of_length-le b k)
-
 -- ---- numbers
 
-stop_by : (p : Parsed) (f : ℕ → Arguments) → ((v : ℕ) → p ≡ Value v → ⊥) → if_value p f ≡ no_numbers
-stop_by (Value v) f h = absurd (h v refl)
-stop_by OutOfForm f h = refl
-stop_by TooLarge f h = refl
+no_number : (p : Result ℕ ParseError) (f : ℕ → Option Arguments) → result_ok p ≡ None → if_value p f ≡ None
+no_number (Ok v) f h = absurd (none-some v (sym h))
+no_number (Err e) f h = refl
+
+a_number : (p : Result ℕ ParseError) (v : ℕ) → result_ok p ≡ Some v → p ≡ Ok v
+a_number (Ok u) v h = ap (λ (o : Option ℕ). Ok (unwrap_or o 0)) h
+a_number (Err e) v h = absurd (none-some v h)
 
 -- the word that begins after the byte at `at` and ends at `end`
 module _ (t : List ℕ) (at end : ℕ) (h : at < length t) (e : end ≡ at + 1 + up_to 32 (drop (at + 1) t)) where
@@ -134,7 +115,7 @@ module _ (t : List ℕ) (at end : ℕ) (h : at < length t) (e : end ≡ at + 1 +
       ∙ ap (λ (w : List (List ℕ)). take b (drop (at + 1) t) ∷ w) (ap fields (drop-drop b (at + 1) t ∙ ap (λ (n : ℕ). drop n t) (sym e)))
       ∙ ap (λ (n : ℕ). take n (drop (at + 1) t) ∷ fields (drop end t)) (sym k))
 
-  module _ (k x y z w : ℕ) (p : Parsed) (f : p ≡ parse_of (take (end - (at + 1)) (drop (at + 1) t))) where
+  module _ (k x y z w : ℕ) (p : Result ℕ ParseError) (f : p ≡ parse_of (take (end - (at + 1)) (drop (at + 1) t))) where
     number_next :
         numbers_from k x y z w (fields (drop at t))
         ≡ if_value p (λ v. numbers_from (k + 1) (if_at k 0 v x) (if_at k 1 v y) (if_at k 2 v z) (if_at k 3 v w) (fields (drop end t)))
@@ -143,20 +124,20 @@ module _ (t : List ℕ) (at end : ℕ) (h : at < length t) (e : end ≡ at + 1 +
 
     -- the word is a number
     pub number_more :
-        (v x' y' z' w' : ℕ) → p ≡ Value v → x' ≡ if_at k 0 v x → y' ≡ if_at k 1 v y → z' ≡ if_at k 2 v z → w' ≡ if_at k 3 v w
+        (v x' y' z' w' : ℕ) → result_ok p ≡ Some v → x' ≡ if_at k 0 v x → y' ≡ if_at k 1 v y → z' ≡ if_at k 2 v z → w' ≡ if_at k 3 v w
         → numbers_from k x y z w (fields (drop at t)) ≡ numbers_from (k + 1) x' y' z' w' (fields (drop end t))
-    number_more v x' y' z' w' e₁ e₂ e₃ e₄ e₅ = rw (number_next, e₁, e₂, e₃, e₄, e₅)
+    number_more v x' y' z' w' e₁ e₂ e₃ e₄ e₅ = rw (number_next, a_number p v e₁, e₂, e₃, e₄, e₅)
 
     -- it is none
-    pub number_stop : ((v : ℕ) → p ≡ Value v → ⊥) → numbers_from k x y z w (fields (drop at t)) ≡ no_numbers
-    number_stop h = number_next ∙ stop_by p _ h
+    pub number_stop : result_ok p ≡ None → numbers_from k x y z w (fields (drop at t)) ≡ None
+    number_stop h = number_next ∙ no_number p _ h
 
   pub store_next : (i x : ℕ) (l : List ℕ) → x ≡ or_zero (parse_of (take (end - (at + 1)) (drop (at + 1) t))) → sets l i (values_of (fields (drop at t))) ≡ sets (set l i x) (i + 1) (values_of (fields (drop end t)))
   unfolding values_of
   store_next i x l f = ap (λ (w : List (List ℕ)). sets l i (values_of w)) field_next ∙ ap₂ (λ (y j : ℕ). sets (set l i y) j (values_of (fields (drop end t)))) (sym f) (sym (add-one i))
 
 module _ (t : List ℕ) (at : ℕ) (h : length t ≤ at) where
-  pub numbers_end : (k x y z w : ℕ) → numbers_from k x y z w (fields (drop at t)) ≡ numbers_of k x y z w
+  pub numbers_end : (k x y z w : ℕ) → numbers_from k x y z w (fields (drop at t)) ≡ Some (numbers_of k x y z w)
   unfolding numbers_from fields
   numbers_end k x y z w = rw (drop_of_length-le t h)
 
@@ -171,22 +152,20 @@ unfolding values_of
 length_values [] = refl
 length_values (t ∷ ts) = ap suc (length_values ts)
 
-unfit : false ≡ true → ⊥
-unfit e = let z : ◌≡◌ {A = ℕ} 0 1 = ap (λ (b : Bool). cond b 1 0) e in omega arith
-
 -- as many numbers as words, where all of them are
-pub numbers_many : (fs : List (List ℕ)) (k x y z w : ℕ) → (numbers_from k x y z w fs).fit ≡ true → (numbers_from k x y z w fs).n ≡ k + length fs
+numbers_many : (fs : List (List ℕ)) (k x y z w : ℕ) → IfSome (numbers_from k x y z w fs) (λ r. r.n ≡ k + length fs)
 unfolding numbers_from
-numbers_many [] k x y z w e = sym (add-zero k)
-numbers_many (t ∷ ts) k x y z w e = go (λ a b c d. numbers_many ts (k + 1) a b c d) (parse_of t) e
+numbers_many [] k x y z w = sym (add-zero k)
+numbers_many (t ∷ ts) k x y z w = go (λ a b c d. numbers_many ts (k + 1) a b c d) (parse_of t)
   where
-    rest : ℕ → Arguments
-    rest v = numbers_from (k + 1) (if_at k 0 v x) (if_at k 1 v y) (if_at k 2 v z) (if_at k 3 v w) ts
+    go : ((a b c d : ℕ) → IfSome (numbers_from (k + 1) a b c d ts) (λ r. r.n ≡ k + 1 + length ts)) → (p : Result ℕ ParseError) → IfSome (if_value p (λ v. numbers_from (k + 1) (if_at k 0 v x) (if_at k 1 v y) (if_at k 2 v z) (if_at k 3 v w) ts)) (λ r. r.n ≡ k + suc (length ts))
+    go ih (Ok v) = let d : k + 1 + length ts ≡ k + suc (length ts) = omega arith in subst (λ (m : ℕ). IfSome (numbers_from (k + 1) (if_at k 0 v x) (if_at k 1 v y) (if_at k 2 v z) (if_at k 3 v w) ts) (λ r. r.n ≡ m)) d (ih (if_at k 0 v x) (if_at k 1 v y) (if_at k 2 v z) (if_at k 3 v w))
+    go ih (Err e) = tt
 
-    go : ((a b c d : ℕ) → (numbers_from (k + 1) a b c d ts).fit ≡ true → (numbers_from (k + 1) a b c d ts).n ≡ k + 1 + length ts) → (p : Parsed) → (if_value p rest).fit ≡ true → (if_value p rest).n ≡ k + suc (length ts)
-    go ih (Value v) f = ih (if_at k 0 v x) (if_at k 1 v y) (if_at k 2 v z) (if_at k 3 v w) f ∙ (let d : (j m : ℕ) → j + 1 + m ≡ j + suc m = λ j m. omega arith in d k (length ts))
-    go ih OutOfForm f = absurd (unfit f)
-    go ih TooLarge f = absurd (unfit f)
+pub numbers_length : (fs : List (List ℕ)) (r : Arguments) → Some r ≡ numbers_from 0 0 0 0 0 fs → r.n ≡ length fs
+numbers_length fs r e =
+    let h : r.n ≡ 0 + length fs = subst (λ (o : Option Arguments). IfSome o (λ r. r.n ≡ 0 + length fs)) (sym e) (numbers_many fs 0 0 0 0 0) in
+    omega arith
 
 -- they stand in front, where there are so many words
 pub stored_values : (l : List ℕ) (fs : List (List ℕ)) (n : ℕ) → n ≡ length fs → n ≤ length l → take n (sets l 0 (values_of fs)) ≡ values_of fs

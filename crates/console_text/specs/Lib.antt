@@ -1,3 +1,4 @@
 pub mod Line
 pub mod Says
 pub mod Gathered
+pub mod Held

@@ -1,8 +1,8 @@
 -- A line as words and numbers. A text is a list of bytes, a space is 32. Assumes nothing.
-use Rattle.std.specs.Prelude.{Bool, true, false, cond, List, [], ◌∷◌, ℕ, suc, ◌+◌, eqb}
+use Rattle.std.specs.Prelude.{Bool, cond, List, [], ◌∷◌, ℕ, suc, ◌+◌, eqb, Option, Some, None, Result, Ok, Err}
+use Rattle.std.specs.Str.{bytes_eq}
 use Rattle.decimal.specs.Decimal.{parse_of}
-use Rattle.decimal.specs.declared.Parsed.{Parsed}
-use Rattle.decimal.specs.declared.Parsed.TheVariants.{Value, OutOfForm, TooLarge}
+use Rattle.decimal.specs.declared.ParseError.{ParseError}
 use Rattle.console_text.specs.declared.line.Arguments.{Arguments}
 
 -- how many bytes stand before the first b
@@ -22,11 +22,8 @@ unfoldable pub words_in : List ℕ → List (List ℕ)
 words_in [] = []
 words_in (x ∷ xs) = cond (eqb x 32) ([] ∷ words_in xs) (grow x (words_in xs))
 
-unfoldable pub same_text : List ℕ → List ℕ → Bool
-same_text [] [] = true
-same_text [] (y ∷ ys) = false
-same_text (x ∷ xs) [] = false
-same_text (x ∷ xs) (y ∷ ys) = cond (eqb x y) (same_text xs ys) false
+abbrev pub same_text : List ℕ → List ℕ → Bool
+same_text = bytes_eq
 
 -- which of the words the name is, counted from 0, or how many there are
 unfoldable pub place_among : List (List ℕ) → List ℕ → ℕ
@@ -46,28 +43,23 @@ fields (x ∷ xs) = split xs
 -- ---- numbers
 
 abbrev pub numbers_of : ℕ → ℕ → ℕ → ℕ → ℕ → Arguments
-numbers_of k x y z w = record { fit = true; n = k; a = x; b = y; c = z; d = w }
-
-abbrev pub no_numbers : Arguments
-no_numbers = record { fit = false; n = 0; a = 0; b = 0; c = 0; d = 0 }
+numbers_of k x y z w = record { n = k; a = x; b = y; c = z; d = w }
 
 abbrev pub if_at : ℕ → ℕ → ℕ → ℕ → ℕ
 if_at n k x other = cond (eqb n k) x other
 
-abbrev pub if_value : Parsed → (ℕ → Arguments) → Arguments
-if_value (Value x) f = f x
-if_value OutOfForm f = no_numbers
-if_value TooLarge f = no_numbers
+abbrev pub if_value : Result ℕ ParseError → (ℕ → Option Arguments) → Option Arguments
+if_value (Ok x) f = f x
+if_value (Err e) f = None
 
 -- k numbers, of which the first four are x y z w, and those of the words after them; no numbers if one of these is out of form
-unfoldable pub numbers_from : ℕ → ℕ → ℕ → ℕ → ℕ → List (List ℕ) → Arguments
-numbers_from k x y z w [] = numbers_of k x y z w
+unfoldable pub numbers_from : ℕ → ℕ → ℕ → ℕ → ℕ → List (List ℕ) → Option Arguments
+numbers_from k x y z w [] = Some (numbers_of k x y z w)
 numbers_from k x y z w (t ∷ ts) = if_value (parse_of t) (λ v. numbers_from (k + 1) (if_at k 0 v x) (if_at k 1 v y) (if_at k 2 v z) (if_at k 3 v w) ts)
 
-abbrev pub or_zero : Parsed → ℕ
-or_zero (Value x) = x
-or_zero OutOfForm = 0
-or_zero TooLarge = 0
+abbrev pub or_zero : Result ℕ ParseError → ℕ
+or_zero (Ok x) = x
+or_zero (Err e) = 0
 
 -- each word as a number, 0 where it is none
 unfoldable pub values_of : List (List ℕ) → List ℕ

@@ -3,3 +3,4 @@
 
 pub mod line;
 pub mod output;
+pub mod reply;

@@ -2,14 +2,11 @@
 ghost use Rattle.std.specs.Prelude.{◌≡◌, ◌+◌, ◌≤◌, length, take, drop, set};
 ghost use Rattle.std.proofs.lemmas.List.Edits.{sets};
 ghost use Rattle.decimal.specs.Decimal.{parse_of};
-ghost use Rattle.console_text.specs.Line.{up_to, words_in, same_text, place_among, fields, no_numbers, if_at, numbers_from, or_zero, values_of};
+ghost use Rattle.console_text.specs.Line.{up_to, words_in, same_text, place_among, fields, if_at, numbers_from, or_zero, values_of};
 
-use decimal::Parsed;
-
-// The words after a command as numbers: whether all of them are, how many, and the first four.
-#[derive(Clone, Copy)]
+// The words after a command as numbers: how many there are, and the first four.
+#[derive(Clone, Copy, Debug, PartialEq, Eq)]
 pub struct Arguments {
-    pub fit: bool,
     pub n: usize,
     pub a: u64,
     pub b: u64,
@@ -24,14 +21,8 @@ pub fn find(text: &[u8], from: usize, b: u8) -> usize
     ensures upper_bound { result ≤ length text.now }
     ensures value { result ≡ from + up_to b (drop from text.now) }
 {
-    let mut i = from;
-    while i < text.len() {
-        if text[i] == b {
-            return i;
-        }
-        i += 1;
-    }
-    i
+    let rest = &text[from..];
+    from + rest.iter().position(|x| *x == b).unwrap_or(rest.len())
 }
 
 // Where the word that starts at `from` ends.
@@ -44,20 +35,11 @@ pub fn word_end(line: &[u8], from: usize) -> usize
     find(line, from, b' ')
 }
 
-fn same(a: &[u8], b: &[u8]) -> bool
+// Whether a word is this one.
+pub fn same(a: &[u8], b: &[u8]) -> bool
     ensures { result ≡ same_text a.now b.now }
 {
-    if a.len() != b.len() {
-        return false;
-    }
-    let mut i: usize = 0;
-    while i < a.len() {
-        if a[i] != b[i] {
-            return false;
-        }
-        i += 1;
-    }
-    true
+    a == b
 }
 
 // Which word of the list the name is, counted from 0, or how many words the list has.
@@ -77,27 +59,14 @@ pub fn place_in(list: &[u8], name: &[u8]) -> usize
     k
 }
 
-fn no_numbers() -> Arguments
-    ensures { result ≡ no_numbers }
-{
-    Arguments {
-        fit: false,
-        n: 0,
-        a: 0,
-        b: 0,
-        c: 0,
-        d: 0,
-    }
-}
-
 fn if_at(n: usize, k: usize, x: u64, other: u64) -> u64
     ensures { result ≡ if_at n k x other }
 {
     if n == k { x } else { other }
 }
 
-// The words after the one that ends at `end`.
-pub fn numbers(line: &[u8], end: usize) -> Arguments
+// The words after the one that ends at `end`. None: one of them is no number.
+pub fn numbers(line: &[u8], end: usize) -> Option<Arguments>
     ensures { result ≡ numbers_from 0 0 0 0 0 (fields (drop end line.now)) }
 {
     let mut n: usize = 0;
@@ -109,33 +78,20 @@ pub fn numbers(line: &[u8], end: usize) -> Arguments
     while at < line.len() {
         let start = at + 1;
         at = word_end(line, start);
-        let Parsed::Value(x) = decimal::parse(&line[start..at]) else {
-            return no_numbers();
-        };
+        let x = decimal::parse(&line[start..at]).ok()?;
         a = if_at(n, 0, x, a);
         b = if_at(n, 1, x, b);
         c = if_at(n, 2, x, c);
         d = if_at(n, 3, x, d);
         n += 1;
     }
-    Arguments {
-        fit: true,
-        n,
-        a,
-        b,
-        c,
-        d,
-    }
+    Some(Arguments { n, a, b, c, d })
 }
 
 fn value(text: &[u8]) -> u64
     ensures { result ≡ or_zero (parse_of text.now) }
 {
-    match decimal::parse(text) {
-        Parsed::Value(x) => x,
-        Parsed::OutOfForm => 0,
-        Parsed::TooLarge => 0,
-    }
+    decimal::parse(text).unwrap_or(0)
 }
 
 // A word past the end is dropped.
@@ -165,20 +121,5 @@ pub fn store(line: &[u8], end: usize, words: &mut [u64])
 pub fn first(s: &[u64], n: usize) -> &[u64]
     ensures { result.now ≡ take n s.now }
 {
-    if n <= s.len() {
-        return &s[..n];
-    }
-    s
-}
-
-pub fn size(x: u64) -> usize
-    ensures { result ≡ x }
-{
-    x as usize
-}
-
-pub fn wide(x: usize) -> u64
-    ensures { result ≡ x }
-{
-    x as u64
+    s.get(..n).unwrap_or(s)
 }

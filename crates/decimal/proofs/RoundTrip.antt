@@ -10,8 +10,9 @@ use lib.ListN.{length, take, drop, get_or, get_or-append}
 use lib.Seq.{take_at, drop_at, length-take-le}
 use lib.Arith.{mod-mul}
 use lib.Dec.{ltb}
-use borrow.Author.Tests.{ltb-true, ltb-false, lt-ltb, le-ltb, le-leb}
-use Rattle.decimal.specs.declared.Parsed.TheVariants.{Value, TooLarge}
+use borrow.Author.Tests.{ltb-true, ltb-false, lt-ltb, le-leb}
+use Rattle.std.specs.Prelude.{Ok, Err}
+use Rattle.decimal.specs.declared.ParseError.TheVariants.{TooLarge}
 use Rattle.decimal.specs.Decimal.{is_digit, all_digits, value_from, parse_of, digits, num_digits, text_of, write_of}
 use Rattle.decimal.proofs.Reading.{both, parse_digits}
 use Rattle.decimal.proofs.Writing.{digits-length, places_small, places_more, places_some}
@@ -24,7 +25,7 @@ lt_or_le : (a b : ℕ) → (a < b) ⊎ (b ≤ a)
 lt_or_le a b = lt_or_le_by a b (ltb a b) refl
 
 digit_is : (d : ℕ) → d < 10 → is_digit (48 + d) ≡ true
-digit_is d h = let a : 48 ≤ 48 + d = omega arith in let b : 48 + d ≤ 57 = omega arith in simp (le-ltb _ _ a, le-leb _ _ b)
+digit_is d h = let a : 48 ≤ 48 + d = omega arith in let b : 48 + d ≤ 57 = omega arith in simp (le-leb _ _ a, le-leb _ _ b)
 
 all_snoc : (t : List ℕ) (b : ℕ) → all_digits t ≡ true → is_digit b ≡ true → all_digits (t ++ b ∷ []) ≡ true
 unfolding all_digits
@@ -78,17 +79,17 @@ no_leading_zero (suc f) x h i =
     (lt_or_le x 10)
 
 -- parsing the text of a number gives the number back
-pub parse_text : (x : ℕ) → x < 2 ^ 64 → parse_of (text_of x) ≡ Value x
+pub parse_text : (x : ℕ) → x < 2 ^ 64 → parse_of (text_of x) ≡ Ok x
 parse_text x h =
     let p = places_some 19 x in
     let l = digits-length (num_digits 19 x) x in
     let w : x < 10 ^ 20 = omega arith in
     let v : value_from 0 (text_of x) ≡ x = digits_value (num_digits 19 x) x ∙ mod-eq_of_lt (places_hold 19 x w) in
     parse_digits (text_of x) (λ (e : length (text_of x) ≡ 0). omega arith) (digits_all (num_digits 19 x) x)
-    ∙ rw v (ap (λ (b : Bool). cond b (Value x) TooLarge) (lt-ltb x (2 ^ 64) h))
+    ∙ rw v (ap (λ (b : Bool). cond b (Ok x) (Err TooLarge)) (lt-ltb x (2 ^ 64) h))
 
 -- what a write leaves between its start and its end parses to the number
-pub parse_written : (x : ℕ) (l : List ℕ) (at : ℕ) → x < 2 ^ 64 → at + length (text_of x) ≤ length l → parse_of (take (length (text_of x)) (drop at (write_of x l at).bytes)) ≡ Value x
+pub parse_written : (x : ℕ) (l : List ℕ) (at : ℕ) → x < 2 ^ 64 → at + length (text_of x) ≤ length l → parse_of (take (length (text_of x)) (drop at (write_of x l at).bytes)) ≡ Ok x
 unfolding write_of
 parse_written x l at h r =
     let d = length-take-le at l (omega arith) in

@@ -9,8 +9,8 @@ use lib.ListN.{length, take, drop, set, length-append, length-set, take-append-d
 use lib.Seq.{set_split, drop_at, length-take-le, take-set-le}
 use lib.Dec.{ltb}
 use borrow.Author.Tests.{lt-ltb, le-ltb, le-leb, lt-leb}
-use Rattle.decimal.specs.declared.Written.TheVariants.{End, NoRoom}
-use Rattle.decimal.specs.Decimal.{digits, num_digits, left, write_of}
+use Rattle.std.specs.Prelude.{Some, None}
+use Rattle.decimal.specs.Decimal.{digits, num_digits, text_of, left, write_of}
 
 pub digits-length : (k x : ℕ) → length (digits k x) ≡ k
 unfolding digits
@@ -34,6 +34,19 @@ pub places_some : (f x : ℕ) → 1 ≤ num_digits f x
 unfolding num_digits
 places_some zero x = omega arith
 places_some (suc f) x = places_some_by f x (ltb x 10) refl
+
+places_few_by : (f x : ℕ) (t : Bool) → num_digits f (x / 10) ≤ suc f → cond t 1 (suc (num_digits f (x / 10))) ≤ suc (suc f)
+places_few_by f x true h = omega arith
+places_few_by f x false h = omega arith
+
+places_few : (f x : ℕ) → num_digits f x ≤ suc f
+unfolding num_digits
+places_few zero x = omega arith
+places_few (suc f) x = places_few_by f x (ltb x 10) (places_few f (x / 10))
+
+-- a u64 has 20 digits at most
+pub text_short : (x : ℕ) → length (text_of x) ≤ 20
+text_short x = rw digits-length (places_few 19 x)
 
 -- a turn of the count: one digit is passed
 pub count_more : (k x : ℕ) → k < 20 → 10 ≤ x → num_digits (20 - k) x ≡ suc (num_digits (20 - (k + 1)) (x / 10))
@@ -72,10 +85,10 @@ put-over (suc k) x l at h =
     ∙ rw (take-set-le at l (at + k) d (omega arith), drop-set-same l (at + k) d m, add-suc, append_assoc)
 
 module _ (x : ℕ) (l : List ℕ) (at n : ℕ) (e : n ≡ num_digits 19 x) where
-  pub write_none : length l < at + n → left NoRoom l ≡ write_of x l at
+  pub write_none : length l < at + n → left None l ≡ write_of x l at
   unfolding write_of
   write_none h = rw (← e, digits-length) (sym (simp (lt-leb _ _ h)))
 
-  pub write_some : (t : List ℕ) → at + n ≤ length l → t ≡ take at l ++ (digits n x ++ drop (at + n) l) → left (End (at + n)) t ≡ write_of x l at
+  pub write_some : (t : List ℕ) → at + n ≤ length l → t ≡ take at l ++ (digits n x ++ drop (at + n) l) → left (Some (at + n)) t ≡ write_of x l at
   unfolding write_of
   write_some t h f = rw (← e, digits-length, f) (sym (simp (le-leb _ _ h)))

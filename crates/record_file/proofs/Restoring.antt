@@ -1,54 +1,44 @@
 -- Laws of a file's words as a record. Assumes nothing.
-use Rattle.std.proofs.Common.{◌≡◌, ℕ, ◌+◌, ◌-◌, ◌<◌, ◌≤◌, false, eqb, List, [], ◌∷◌, ◌++◌, length, get_or, take, drop, set, sym, refl, ap, ◌∙◌, subst, ap₂, arith, length-drop, length-take-le, get_or-drop, get_or-set_other, get_or-take, get_or-set_same, ext_get_or, below_more, eqb-true}
+use Rattle.std.proofs.Common.{◌&&◌, Bool, not, cond, ltb, Result, Ok, Err, IfOk, length-append, ◌≡◌, ℕ, ◌+◌, ◌-◌, ◌<◌, ◌≤◌, eqb, List, [], ◌∷◌, ◌++◌, length, get_or, take, drop, sym, refl, ap, ◌∙◌, subst, ap₂, arith, length-drop, length-take-le, get_or-take}
+use Rattle.std.proofs.lemmas.List.{take_at, drop-take, length-take, take-append-le, take-append-drop}
+use Rattle.std.proofs.lemmas.Slice.{take-put_mid_below}
+use Rattle.std.specs.List.{copy_within}
+use Rattle.std.specs.Result.{is_ok}
+use lib.Seq.{take_all}
+use borrow.Rule.Slice.PartMut.{put_mid}
 use mathlib.Core.Path.{subst⁻¹}
-use borrow.Author.Tests.{eqb-false}
+use borrow.Author.Tests.{le-ltb}
+use Rattle.elias_fano_words.specs.Sizes.{start_len}
+use Rattle.elias_fano_words.specs.Times.{last_of, times_in, holds}
+use Rattle.elias_fano.specs.Steps.{sound, builder_test, held_words, held_times, intact, unfinished, zeros, resume_test, resume_of}
 use Rattle.errors.specs.Answer.{done, refused}
 use Rattle.errors.specs.Refusal.{number_of}
 use Rattle.errors.specs.declared.Refusal.{Refusal}
 use Rattle.darray.specs.Pending.{Decides}
-use Rattle.darray.proofs.Matching.{it_is_not}
+use Rattle.darray.proofs.Matching.{it_is, it_is_not}
 use Rattle.elias_fano.specs.declared.builder.Builder.{Builder}
-use Rattle.elias_fano.specs.declared.builder.Pushed.{Pushed}
-use Rattle.elias_fano.specs.declared.builder.Pushed.TheVariants.{Accepted, Refused}
 use Rattle.elias_fano.specs.Made.{Made, of_pushed}
-use Rattle.elias_fano.specs.Steps.{resume_test, resume_of}
 use Rattle.elias_fano.proofs.Cases.{Sound}
 use Rattle.elias_fano.proofs.Resuming as held
+use Rattle.record_file.specs.declared.KeptError.{KeptError}
+use Rattle.record_file.specs.Stored.{Restores, head_of, stored, builder_of, StartLen, Right, Stores}
 use Rattle.record_file.specs.Sum.{sum_of}
-use Rattle.record_file.specs.declared.Start.{Start}
-use Rattle.record_file.specs.declared.Start.TheVariants as start
-use Rattle.record_file.specs.Stored.{head_of, stored, builder_of, StartLen, StartIs, Right, Stores}
 
 -- ---- moving words to the front
 
--- of l the first i words after the head stand in front in w, and the others where they stood
-pub record Moved (l w : List ℕ) (i : ℕ) : Type 0 where
-  pub front : (k : ℕ) → k < i → get_or w k 0 ≡ get_or l (k + 5) 0
-  pub rest : (k : ℕ) → i ≤ k → get_or w k 0 ≡ get_or l k 0
-
-pub moved_begin : (l : List ℕ) → Moved l l 0
-moved_begin l = record { front = λ k h. absurd (omega arith); rest = λ k h. refl }
-
-pub moved_more : (l w : List ℕ) (i : ℕ) → i < length w → Moved l w i → Moved l (set w i (get_or w (i + 5) 0)) (i + 1)
-moved_more l w i h m =
-    record {
-      front =
-          below_more (λ (k : ℕ). get_or (set w i (get_or w (i + 5) 0)) k 0 ≡ get_or l (k + 5) 0) i
-          (λ k lt. get_or-set_other w i k (get_or w (i + 5) 0) 0 (λ e. omega (arith, e)) ∙ m.front k lt)
-          (get_or-set_same w i (get_or w (i + 5) 0) 0 h ∙ m.rest (i + 5) (omega arith));
-      rest = λ k g. get_or-set_other w i k (get_or w (i + 5) 0) 0 (λ e. omega (arith, e)) ∙ m.rest k (omega arith);
-    }
-
-pub moved_end : (l w : List ℕ) (i n : ℕ) → 5 ≤ n → n ≤ length l → length w ≡ length l → n - 5 ≤ i → Moved l w i → take (n - 5) w ≡ drop 5 (take n l)
-moved_end l w i n h g e j m =
-    let a : length (take (n - 5) w) ≡ n - 5 = length-take-le (n - 5) w (omega arith) in
-    let b : length (drop 5 (take n l)) ≡ n - 5 = length-drop 5 (take n l) ∙ ap (λ (x : ℕ). x - 5) (length-take-le n l g) in
-    ext_get_or 0 (take (n - 5) w) (drop 5 (take n l)) (a ∙ sym b)
-    (λ k q.
-    let s : k < n - 5 = omega (arith, q, a) in
-    get_or-take (n - 5) w k 0 s
-    ∙ m.front k (omega arith)
-    ∙ sym (get_or-drop 5 (take n l) k 0 ∙ get_or-take n l (5 + k) 0 (omega arith) ∙ ap (λ (x : ℕ). get_or l x 0) (omega arith)))
+-- the words after the head, once they are copied to the front and the later ones are written
+pub moved_front : (l w z : List ℕ) (n k : ℕ) → 5 ≤ n → n ≤ length l → w ≡ copy_within l 5 n 0 → take (n - 5) (put_mid (n - 5) k w z) ≡ drop 5 (take n l)
+moved_front l w z n k h g e =
+    let m = n - 5 in
+    let moved = take m (drop 5 l) in
+    let len : length moved ≡ m = length-take-le m (drop 5 l) (omega (arith, length-drop 5 l)) in
+    let long : m ≤ length w = omega (arith, ap length e, length-append moved (drop (0 + m) l)) in
+    let j : 5 + m ≡ n = omega arith in
+    take-put_mid_below m k w z m (omega arith) long
+    ∙ ap (take m) e
+    ∙ take_at moved (drop (0 + m) l) m len
+    ∙ sym (drop-take 5 m l)
+    ∙ ap (λ (i : ℕ). drop 5 (take i l)) j
 
 -- ---- the file's words
 
@@ -65,32 +55,16 @@ builder_front : (l : List ℕ) (n : ℕ) → 5 ≤ n → builder_of (take n l) �
 unfolding builder_of
 builder_front l n h = rw (get_or-take n l 0 0 (omega arith), get_or-take n l 1 0 (omega arith), get_or-take n l 2 0 (omega arith), get_or-take n l 3 0 (omega arith))
 
--- ---- the cases of the tests
+-- ---- the case of the test
 
-pub accepted : (b x : Builder) (r : Pushed) (ws : List ℕ) → r ≡ Accepted x → of_pushed b r ws ≡ resume_of b ws → resume_test b ws ≡ done
-unfolding resume_of
-accepted b x r ws e f = sym (ap (λ (p : Pushed). (of_pushed b p ws).answer) (sym e) ∙ ap (λ (m : Made). m.answer) f)
-
-refusal_apart : (k : ℕ) → refused k ≡ done → ⊥
+refusal_apart : (k : ℕ) → done ≡ refused k → ⊥
 refusal_apart k e = let z : ◌≡◌ {A = ℕ} 0 1 = cc in omega arith
 
-pub not_accepted : (b : Builder) (e : Refusal) (r : Pushed) (ws : List ℕ) → r ≡ Refused e → of_pushed b r ws ≡ resume_of b ws → resume_test b ws ≡ done → ⊥
+-- what resume answers tells whether some run leaves them
+pub resumes : (b : Builder) (ws : List ℕ) (r : Result Builder Refusal) → of_pushed b r ws ≡ resume_of b ws → Decides (is_ok r) (resume_test b ws ≡ done)
 unfolding resume_of
-not_accepted b e r ws q f d = refusal_apart (number_of e) (ap (λ (p : Pushed). (of_pushed b p ws).answer) (sym q) ∙ ap (λ (m : Made). m.answer) f ∙ d)
-
--- ---- as many words as the start has
-
-module _ (b : Builder) (len : ℕ) (r : Start) where
-  pub so_many : (k : ℕ) → StartIs b r → r ≡ start.Words k → Decides (eqb k len) (StartLen b len)
-  so_many k h e =
-      let s : StartLen b k = subst (StartIs b) e h in
-      record {
-        yes = λ q. subst (StartLen b) (eqb-true k len q) s;
-        no = λ q t. eqb-false k len q (s.2 ∙ sym t.2);
-      }
-
-  pub no_settings : StartIs b r → r ≡ start.Refused → Decides false (StartLen b len)
-  no_settings h e = it_is_not (λ t. subst (StartIs b) e h t.0 t.1)
+resumes b ws (Ok x) e = it_is (sym (ap (λ (m : Made). m.answer) e))
+resumes b ws (Err x) e = it_is_not (λ d. refusal_apart (number_of x) (sym d ∙ sym (ap (λ (m : Made). m.answer) e)))
 
 -- ---- what a file stores, taken apart
 
@@ -168,3 +142,46 @@ module _ (l o : List ℕ) (n c : ℕ) (b : Builder) (h : 5 ≤ n) (g : n ≤ len
           summed = sym same_sum ∙ sum-stored file d ws s ∙ ap₂ sum_of eb' ew;
           resumed = sym (ap₂ resume_test eb' ew) ∙ s.resumed;
         })
+
+-- ---- what was handed back is gone on with
+
+module _ (b : Builder) (o : List ℕ) (long : start_len b.universe b.num_vals ≤ length o) where
+  abbrev start : List ℕ
+  start = take (start_len b.universe b.num_vals) o
+
+  same-held : held_words b start ≡ held_words b o
+  unfolding start_len
+  same-held =
+      let k = start_len b.universe b.num_vals - 6 in
+      let j : start_len b.universe b.num_vals ≡ 6 + k = omega arith in
+      ap (λ (i : ℕ). take k (drop 6 (take i o))) j
+      ∙ ap (take k) (drop-take 6 k o)
+      ∙ take_all k (take k (drop 6 o)) (omega (arith, length-take k (drop 6 o)))
+
+  same_header : take 6 start ≡ take 6 o
+  unfolding start_len
+  same_header =
+      let l = start_len b.universe b.num_vals in
+      sym (take-append-le 6 start (drop l o) (omega (arith, length-take-le l o long)))
+      ∙ ap (take 6) (take-append-drop l o)
+
+  same_test : unfinished b start ≡ unfinished b o
+  unfolding unfinished intact held_times
+  same_test = ap₂ (λ (h w : List ℕ). zeros h && (holds b.universe b.num_vals b.num_pushed w && eqb (last_of (times_in b.universe b.num_vals b.num_pushed w)) b.last)) same_header same-held
+
+  same_room : ltb (length start) (start_len b.universe b.num_vals) ≡ ltb (length o) (start_len b.universe b.num_vals)
+  same_room =
+      let l = start_len b.universe b.num_vals in
+      le-ltb (length start) l (omega (arith, length-take-le l o long)) ∙ sym (le-ltb (length o) l long)
+
+  -- more words pass the test that those of its start pass
+  resumes_in_more : resume_test b start ≡ done → resume_test b o ≡ done
+  unfolding builder_test
+  resumes_in_more e = sym (ap₂ (λ (few whole : Bool). cond (not (sound b)) (refused 7) (cond few (refused 3) (cond whole done (refused 7)))) same_room same_test) ∙ e
+
+pub restored : (file o : List ℕ) (r : Result Builder KeptError) → length file ≤ length o → Restores file o r → IfOk r (λ b. resume_test b o ≡ done)
+restored file o (Ok b) h s =
+    let k : length (take (length file - 5) o) ≡ length file - 5 = length-take-le (length file - 5) o (omega arith) in
+    let j : length file - 5 ≡ start_len b.universe b.num_vals = sym k ∙ s.whole in
+    resumes_in_more b o (omega arith) (ap (λ (i : ℕ). resume_test b (take i o)) (sym j) ∙ s.resumed)
+restored file o (Err e) h s = tt

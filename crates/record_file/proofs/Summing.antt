@@ -1,5 +1,5 @@
 -- Laws of the sum. Assumes nothing.
-use Rattle.std.proofs.Common.{◌≡◌, ℕ, suc, ◌+◌, ◌*◌, ◌%◌, ◌^◌, ◌<◌, ◌≤◌, List, length, get_or, drop, sym, ap, ◌∙◌, add-one, drop_of_length-le, drop-cons}
+use Rattle.std.proofs.Common.{◌≡◌, ℕ, suc, [], ◌∷◌, ◌+◌, ◌*◌, ◌%◌, ◌^◌, ◌<◌, ◌≤◌, List, length, get_or, drop, sym, ap, ◌∙◌, add-one, drop_of_length-le, drop-cons}
 use native.Mathlib.Nat.{mod-add-mod}
 use Rattle.record_file.specs.Sum.{sum_with, sum_from, sum_of}
 use Rattle.elias_fano.specs.declared.builder.Builder.{Builder}
@@ -17,13 +17,7 @@ module _ (c : ℕ) (ws : List ℕ) (i : ℕ) where
   unfolding sum_from
   sum_done h = ap (sum_from c) (drop_of_length-le ws h)
 
--- the four numbers of a builder, one after the other
-pub sum_is :
-    (b : Builder) (ws : List ℕ) (c d e f r : ℕ)
-    → c ≡ sum_with 1 b.universe → d ≡ sum_with c b.num_vals → e ≡ sum_with d b.num_pushed → f ≡ sum_with e b.last
-    → r ≡ sum_from f ws
-    → r ≡ sum_of b ws
+-- the four numbers of a builder, and then the words
+pub sum_is : (b : Builder) (ws ns : List ℕ) (c d : ℕ) → ns ≡ b.universe ∷ b.num_vals ∷ b.num_pushed ∷ b.last ∷ [] → c ≡ sum_from 1 ns → d ≡ sum_from c ws → d ≡ sum_of b ws
 unfolding sum_of sum_from
-sum_is b ws c d e f r ec ed ee ef er =
-    er ∙ ap (λ (x : ℕ). sum_from x ws)
-    (ef ∙ ap (λ (x : ℕ). sum_with x b.last) (ee ∙ ap (λ (x : ℕ). sum_with x b.num_pushed) (ed ∙ ap (λ (x : ℕ). sum_with x b.num_vals) ec)))
+sum_is b ws ns c d en ec ed = ed ∙ ap (λ (x : ℕ). sum_from x ws) (ec ∙ ap (sum_from 1) en)

@@ -1,14 +1,12 @@
 -- A record as the words of its file. Assumes nothing.
-use Rattle.std.specs.Prelude.{◌≡◌, ℕ, ◌-◌, ◌<◌, ◌≤◌, List, [], ◌∷◌, ◌++◌, length, take, slice_index}
+use Rattle.std.specs.Prelude.{◌≡◌, ℕ, ◌-◌, ◌<◌, ◌≤◌, List, [], ◌∷◌, ◌++◌, length, take, slice_index, Option, Some, None, Result, Ok, Err}
 use Rattle.errors.specs.Answer.{done}
 use Rattle.elias_fano_words.specs.Sizes.{start_len}
 use Rattle.elias_fano.specs.declared.builder.Builder.{Builder}
 use Rattle.elias_fano.specs.Steps.{resume_test}
 use Rattle.record_file.specs.Sum.{sum_of}
-use Rattle.record_file.specs.declared.Start.{Start}
-use Rattle.record_file.specs.declared.Start.TheVariants as start
-use Rattle.record_file.specs.declared.Kept.{Kept}
-use Rattle.record_file.specs.declared.Kept.TheVariants.{Held, Missing, Unreadable, Refused, TooLong}
+use Rattle.record_file.specs.declared.KeptError.{KeptError}
+use Rattle.record_file.specs.declared.KeptError.TheVariants.{Missing, Unreadable, Refused, TooLong}
 
 -- the builder's numbers and the sum
 unfoldable pub head_of : Builder → ℕ → List ℕ
@@ -30,9 +28,9 @@ pub record Right (b : Builder) (check : ℕ) (ws : List ℕ) : Type 0 where
 abbrev pub StartLen : Builder → ℕ → Type 0
 StartLen b k = (0 < b.num_vals) × (b.num_vals ≤ 16777216) × (k ≡ start_len b.universe b.num_vals)
 
-abbrev pub StartIs : Builder → Start → Type 0
-StartIs b (start.Words k) = StartLen b k
-StartIs b start.Refused = 0 < b.num_vals → b.num_vals ≤ 16777216 → ⊥
+abbrev pub StartIs : Builder → Option ℕ → Type 0
+StartIs b (Some k) = StartLen b k
+StartIs b None = 0 < b.num_vals → b.num_vals ≤ 16777216 → ⊥
 
 -- the words of a file store a record that some run leaves, with the words of its start
 pub record Stores (file : List ℕ) (b : Builder) (ws : List ℕ) : Type 0 where
@@ -41,9 +39,9 @@ pub record Stores (file : List ℕ) (b : Builder) (ws : List ℕ) : Type 0 where
   pub resumed : resume_test b ws ≡ done
 
 -- a record is held exactly if the file stores one: that one, with the words of its start in front
-abbrev pub Restores : List ℕ → List ℕ → Kept → Type 0
-Restores file ws (Held b) = Stores file b (take (length file - 5) ws)
-Restores file ws Refused = (b : Builder) (start : List ℕ) → Stores file b start → ⊥
-Restores file ws Missing = ⊥
-Restores file ws Unreadable = ⊥
-Restores file ws TooLong = ⊥
+abbrev pub Restores : List ℕ → List ℕ → Result Builder KeptError → Type 0
+Restores file ws (Ok b) = Stores file b (take (length file - 5) ws)
+Restores file ws (Err Refused) = (b : Builder) (start : List ℕ) → Stores file b start → ⊥
+Restores file ws (Err Missing) = ⊥
+Restores file ws (Err Unreadable) = ⊥
+Restores file ws (Err TooLong) = ⊥

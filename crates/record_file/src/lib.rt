@@ -1,24 +1,26 @@
 // A record that is still written, in a file: its builder's four numbers, the sum of them and the words, and then the words of its start.
 #![tactic(auto)]
 
-ghost use Rattle.std.specs.Prelude.{◌≡◌, ◌-◌, ◌≤◌, length, take, drop};
+ghost use Rattle.std.specs.Prelude.{◌≡◌, ◌≤◌, length, take, IfOk};
+ghost use Rattle.errors.specs.Answer.{done};
+ghost use Rattle.elias_fano.specs.Steps.{resume_test};
 ghost use Rattle.record_file.specs.Sum.{sum_of};
 ghost use Rattle.darray.specs.Pending.{Decides};
 ghost use Rattle.record_file.specs.Stored.{head_of, builder_of, StartLen, StartIs, Right, Restores};
 
-use elias_fano::builder::{Builder, Pushed, resume};
+use elias_fano::builder::{Builder, resume};
 use elias_fano_words::sizes::{MAX_VALS, of_record};
+use std::io::{Error, ErrorKind};
 use sums::sum;
-use word_files::{Loaded, Saved};
+use word_files::LoadError;
 
 pub mod opening;
 pub mod sentences;
 pub mod sums;
 
-#[derive(Clone, Copy)]
-pub enum Kept {
-    // The words of its start stand at the front of those that are lent.
-    Held(Builder),
+// Why a file gives no record.
+#[derive(Clone, Copy, Debug, PartialEq, Eq)]
+pub enum KeptError {
     // There is no such file.
     Missing,
     // It cannot be opened or read.
@@ -29,28 +31,28 @@ pub enum Kept {
     TooLong,
 }
 
-// What the tests of the settings find: how many words the start has.
-#[derive(Clone, Copy)]
-enum Start {
-    Words(usize),
-    Refused,
+impl From<LoadError> for KeptError {
+    fn from(e: LoadError) -> KeptError {
+        match e {
+            LoadError::Missing => KeptError::Missing,
+            LoadError::Unreadable => KeptError::Unreadable,
+            LoadError::Cut => KeptError::Refused,
+            LoadError::TooLong => KeptError::TooLong,
+        }
+    }
 }
 
 // How many words stand before those of the start.
 const HEAD_LEN: usize = 5;
 
-// The words of a start with the builder's settings, where these are in range.
-fn start_of(b: Builder) -> Start
+// How many words a start with the builder's settings has, where these are in range.
+fn start_of(b: Builder) -> Option<usize>
     ensures { StartIs b result }
 {
-    if b.num_vals == 0 {
-        return Start::Refused;
+    if b.num_vals == 0 || b.num_vals > MAX_VALS {
+        return None;
     }
-    if b.num_vals > MAX_VALS {
-        return Start::Refused;
-    }
-    let s = of_record(b.universe, b.num_vals);
-    Start::Words(s.start_len)
+    Some(of_record(b.universe, b.num_vals).start_len)
 }
 
 // What stands before the words of the start.
@@ -61,20 +63,15 @@ fn head(b: Builder, words: &[u64]) -> [u64; 5]
     [b.universe, b.num_vals, b.num_pushed, b.last, check]
 }
 
-fn keep_start(rt: &HostRuntime, path: &[u8], b: Builder, words: &[u64]) -> Saved {
-    let front = head(b, words);
-    word_files::save(rt, path, &front, words)
-}
-
 // Saves the record: the builder and the words of its start, with which the lent ones begin.
-pub fn keep(rt: &HostRuntime, path: &[u8], b: Builder, words: &[u64]) -> Saved {
-    let Start::Words(n) = start_of(b) else {
-        return Saved::Failed;
-    };
-    if words.len() < n {
-        return Saved::Failed;
+pub fn keep(rt: &HostRuntime, path: &[u8], b: Builder, words: &[u64]) -> Result<(), Error> {
+    match start_of(b) {
+        Some(n) if n <= words.len() => {
+            let start = &words[..n];
+            word_files::save(rt, path, &head(b, start), start)
+        }
+        _ => Err(Error::from(ErrorKind::InvalidInput)),
     }
-    keep_start(rt, path, b, &words[..n])
 }
 
 // The builder that stands in front.
@@ -94,86 +91,43 @@ fn builder_in(words: &[u64]) -> Builder
 fn has_start(b: Builder, len: usize) -> bool
     ensures { Decides result (StartLen b len) }
 {
-    match start_of(b) {
-        Start::Words(n) => n == len,
-        Start::Refused => false,
-    }
-}
-
-// Moves the words after the head to the front.
-fn move_down(words: &mut [u64], n: usize)
-    requires le_n { 5 ≤ n }
-    requires n_in_bounds { n ≤ length words.old }
-    ensures { take (n - 5) words.new ≡ drop 5 (take n words.old) }
-{
-    let mut i: usize = 0;
-    while i < n - HEAD_LEN {
-        words[i] = words[i + HEAD_LEN];
-        i += 1;
-    }
-}
-
-// Sets the words from `from` up to n to 0.
-fn clear(words: &mut [u64], from: usize, n: usize)
-    requires { n ≤ length words.old }
-    ensures { take from words.new ≡ take from words.old }
-{
-    let mut i = from;
-    while i < n {
-        words[i] = 0;
-        i += 1;
-    }
+    start_of(b) == Some(len)
 }
 
 // Whether the builder and the words of its start are those of the sum, and some run leaves them.
 fn is_right(b: Builder, check: u64, words: &[u64]) -> bool
     ensures { Decides result (Right b check words.now) }
 {
-    if sum(b, words) != check {
-        return false;
-    }
-    match resume(b, words) {
-        Pushed::Accepted(_) => true,
-        Pushed::Refused(_) => false,
-    }
+    sum(b, words) == check && resume(b, words).is_ok()
 }
 
-fn is_right_in(b: Builder, check: u64, words: &[u64], n: usize) -> bool
-    requires { n ≤ length words.now }
-    ensures { Decides result (Right b check (take n words.now)) }
-{
-    is_right(b, check, &words[..n])
-}
-
-// The record of a file's n words.
-fn taken(words: &mut [u64], n: usize) -> Kept
+// The record of a file's n words. What is left of the lent ones past its start is 0.
+fn taken(words: &mut [u64], n: usize) -> Result<Builder, KeptError>
     requires { n ≤ length words.old }
     ensures { Restores (take n words.old) words.new result }
 {
     if n < HEAD_LEN {
-        return Kept::Refused;
+        return Err(KeptError::Refused);
     }
     let b = builder_in(&*words);
     let check = words[4];
     let m = n - HEAD_LEN;
     if !has_start(b, m) {
-        return Kept::Refused;
+        return Err(KeptError::Refused);
     }
-    move_down(&mut *words, n);
-    clear(&mut *words, m, n);
-    if is_right_in(b, check, &*words, m) {
-        return Kept::Held(b);
+    words.copy_within(HEAD_LEN..n, 0);
+    words[m..n].fill(0);
+    if is_right(b, check, &words[..m]) {
+        Ok(b)
+    } else {
+        Err(KeptError::Refused)
     }
-    Kept::Refused
 }
 
-// The record that was kept, with the words of its start at the front of those that are lent.
-pub fn restore(rt: &HostRuntime, path: &[u8], words: &mut [u64]) -> Kept {
-    match word_files::load(rt, path, &mut *words) {
-        Loaded::Words(n) => taken(words, n),
-        Loaded::Missing => Kept::Missing,
-        Loaded::Unreadable => Kept::Unreadable,
-        Loaded::Cut => Kept::Refused,
-        Loaded::TooLong => Kept::TooLong,
-    }
+// The record that was kept, with the words of its start at the front of those that are lent: `resume` takes both.
+pub fn restore(rt: &HostRuntime, path: &[u8], words: &mut [u64]) -> Result<Builder, KeptError>
+    ensures { IfOk result (λ b. resume_test b words.new ≡ done) }
+{
+    let n = word_files::load(rt, path, &mut *words)?;
+    taken(words, n)
 }

@@ -1,91 +1,67 @@
 // The record that a command goes on with: that of the file, or of what was kept of it under its name with `.1`.
-use crate::{Kept, restore, sentences};
-use elias_fano::builder::{Builder, Pushed, new};
+use crate::{KeptError, restore, sentences};
+use console_text::output::Output;
+use elias_fano::builder::{Builder, new};
+use word_files::names::Name;
+use word_files::say::Failure;
 use word_files::{files, names, say};
 
-#[derive(Clone, Copy)]
-pub enum Opened {
-    Record(Builder),
-    // The command ends with this status.
-    Stopped(i32),
+// The settings of a record.
+#[derive(Clone, Copy, Debug, PartialEq, Eq)]
+pub struct Settings {
+    pub universe: u64,
+    pub num_vals: u64,
 }
 
-// The settings that a record must have, if not any will do.
-#[derive(Clone, Copy)]
-struct Wanted {
-    any: bool,
-    universe: u64,
-    num_vals: u64,
-}
-
-// What a file holds.
-#[derive(Clone, Copy)]
-enum Seen {
-    Held(Builder),
-    Missing,
-    Unreadable,
-    Refused,
-    // A record of other settings.
+// Why a file gives no record to go on with.
+#[derive(Clone, Copy, PartialEq, Eq)]
+enum SeenError {
+    // It gives none at all.
+    Kept(KeptError),
+    // It holds a record of other settings.
     Other,
-    TooLong,
 }
 
-// What became of a file that is renamed.
-#[derive(Clone, Copy)]
-enum Aside {
-    Done,
-    // The name is taken.
-    There,
-    Failed,
-}
-
-fn by_settings(b: Builder, w: Wanted) -> Seen {
-    if w.any {
-        return Seen::Held(b);
-    }
-    if b.universe != w.universe {
-        return Seen::Other;
-    }
-    if b.num_vals != w.num_vals {
-        return Seen::Other;
-    }
-    Seen::Held(b)
-}
-
-fn look(rt: &HostRuntime, file: &[u8], w: Wanted, words: &mut [u64]) -> Seen {
-    match restore(rt, file, words) {
-        Kept::Held(b) => by_settings(b, w),
-        Kept::Missing => Seen::Missing,
-        Kept::Unreadable => Seen::Unreadable,
-        Kept::Refused => Seen::Refused,
-        Kept::TooLong => Seen::TooLong,
+impl From<KeptError> for SeenError {
+    fn from(e: KeptError) -> SeenError {
+        SeenError::Kept(e)
     }
 }
 
-// Says why there is no record, and answers the status.
-fn stop(file: &[u8], s: Seen) -> Opened {
-    match s {
-        Seen::Held(b) => Opened::Record(b),
-        Seen::Missing => {
-            say::of_file(file, b" is not there");
-            Opened::Stopped(2)
+const MISSING: SeenError = SeenError::Kept(KeptError::Missing);
+
+const UNREADABLE: SeenError = SeenError::Kept(KeptError::Unreadable);
+
+// The file's record, where it has the settings that are wanted, if not any will do.
+fn look(
+    rt: &HostRuntime,
+    file: &[u8],
+    wanted: Option<Settings>,
+    words: &mut [u64],
+) -> Result<Builder, SeenError> {
+    let b = restore(rt, file, words)?;
+    let held = Settings {
+        universe: b.universe,
+        num_vals: b.num_vals,
+    };
+    match wanted {
+        Some(s) if s != held => Err(SeenError::Other),
+        _ => Ok(b),
+    }
+}
+
+// Says why there is no record.
+fn stop(file: &[u8], e: SeenError) -> Failure {
+    match e {
+        SeenError::Kept(KeptError::Missing) => say::unusable(file, b" is not there"),
+        SeenError::Kept(KeptError::Unreadable) => say::unusable(file, b" cannot be read"),
+        SeenError::Kept(KeptError::Refused) => {
+            say::refused(file, b" holds no record that was kept whole")
         }
-        Seen::Unreadable => {
-            say::of_file(file, b" cannot be read");
-            Opened::Stopped(2)
+        SeenError::Kept(KeptError::TooLong) => {
+            say::refused(file, b" has more words than there is room for")
         }
-        Seen::Refused => {
-            say::of_file(file, b" holds no record that was kept whole");
-            Opened::Stopped(1)
-        }
-        Seen::Other => {
-            say::of_file(file, b" holds a record of another universe or count");
-            Opened::Stopped(1)
-        }
-        Seen::TooLong => {
-            say::of_file(file, b" has more words than there is room for");
-            Opened::Stopped(1)
-        }
+        SeenError::Other => say::refused(file, b" holds a record of another universe or count"),
     }
 }
 
@@ -97,188 +73,81 @@ fn is_free(rt: &HostRuntime, name: &[u8]) -> bool {
     }
 }
 
-// Renames the file to the name, unless that is taken: one step, which a cut leaves done or not.
-fn rename_aside(rt: &HostRuntime, file: &[u8], name: &[u8]) -> Aside {
-    if !is_free(rt, name) {
-        return Aside::There;
+// Renames the refused file, unless the name is taken, since the next save must not drop it: one step, which a cut leaves done or not.
+fn set_aside(rt: &HostRuntime, file: &[u8]) -> Result<(), Failure> {
+    let name = Name::join(file, b".refused");
+    if !is_free(rt, name.bytes()) {
+        return Err(say::refused(
+            file,
+            b" cannot be set aside: a file of its name with .refused is there",
+        ));
     }
-    match files::rename(rt, file, name) {
-        Ok(()) => Aside::Done,
-        Err(_) => Aside::Failed,
+    if files::rename(rt, file, name.bytes()).is_err() {
+        return Err(say::unusable(file, b" cannot be set aside under its name with .refused"));
     }
+    say::of_file(file, b" is set aside under its name with .refused");
+    Ok(())
 }
 
-fn set_aside(rt: &HostRuntime, file: &[u8]) -> Aside {
-    let mut name = io::buffer();
-    let n = names::join(file, b".refused", &mut name);
-    rename_aside(rt, file, &name[..n])
+fn begin(s: Settings, words: &mut [u64], out: &mut Output) -> Result<Builder, Failure> {
+    new(s.universe, s.num_vals, words).map_err(|e| sentences::no_record(out, e))
 }
 
-fn go_on(file: &[u8], b: Builder, out: &mut [u8; 65536]) -> Opened {
-    sentences::holds(file, b, out);
-    Opened::Record(b)
-}
-
-// The file is refused, and the older one is not: the next save must not drop the refused one.
-fn go_on_instead(
-    rt: &HostRuntime,
-    file: &[u8],
-    old: &[u8],
-    b: Builder,
-    out: &mut [u8; 65536],
-) -> Opened {
-    match set_aside(rt, file) {
-        Aside::Done => {
-            say::of_file(file, b" is set aside under its name with .refused");
-            go_on(old, b, out)
-        }
-        Aside::There => {
-            say::of_file(
-                file,
-                b" cannot be set aside: a file of its name with .refused is there",
-            );
-            Opened::Stopped(1)
-        }
-        Aside::Failed => {
-            say::of_file(file, b" cannot be set aside under its name with .refused");
-            Opened::Stopped(2)
-        }
+// The name under which what the file held is kept.
+fn older(file: &[u8]) -> Result<Name, Failure> {
+    if !names::fits(file, 8) {
+        say::sentence(b"the name of the file is empty or too long");
+        return Err(Failure::Unusable);
     }
+    Ok(Name::join(file, b".1"))
 }
 
-fn begin(w: Wanted, words: &mut [u64], out: &mut [u8; 65536]) -> Opened {
-    match new(w.universe, w.num_vals, words) {
-        Pushed::Accepted(b) => Opened::Record(b),
-        Pushed::Refused(e) => {
-            sentences::no_record(out, e);
-            Opened::Stopped(1)
-        }
-    }
-}
-
-// There is no file: the older one, as after a cut between two renames, or a new record.
-fn log_old(
-    rt: &HostRuntime,
-    old: &[u8],
-    w: Wanted,
-    words: &mut [u64],
-    out: &mut [u8; 65536],
-) -> Opened {
-    let s = look(rt, old, w, &mut *words);
-    if let Seen::Missing = s {
-        return begin(w, words, out);
-    }
-    let Seen::Held(b) = s else {
-        return stop(old, s);
-    };
-    go_on(old, b, out)
-}
-
-// The file is refused for what was seen: the older one, where it holds a record of these settings.
-fn log_instead(
-    rt: &HostRuntime,
-    file: &[u8],
-    s: Seen,
-    old: &[u8],
-    w: Wanted,
-    words: &mut [u64],
-    out: &mut [u8; 65536],
-) -> Opened {
-    let Seen::Held(b) = look(rt, old, w, words) else {
-        return stop(file, s);
-    };
-    go_on_instead(rt, file, old, b, out)
-}
-
-fn log_either(
-    rt: &HostRuntime,
-    file: &[u8],
-    old: &[u8],
-    w: Wanted,
-    words: &mut [u64],
-    out: &mut [u8; 65536],
-) -> Opened {
-    let s = look(rt, file, w, &mut *words);
-    if let Seen::Held(b) = s {
-        return go_on(file, b, out);
-    }
-    if let Seen::Missing = s {
-        return log_old(rt, old, w, words, out);
-    }
-    if let Seen::Unreadable = s {
-        return stop(file, s);
-    }
-    log_instead(rt, file, s, old, w, words, out)
-}
-
-// The record of these settings to log to, which may be new.
+// The record of these settings to log to, which may be new: the older one where the file is not there, as after a cut between two renames, or is refused.
 pub fn to_log(
     rt: &HostRuntime,
     file: &[u8],
-    universe: u64,
-    num_vals: u64,
+    settings: Settings,
     words: &mut [u64],
-    out: &mut [u8; 65536],
-) -> Opened {
-    if !names::fits(file, 8) {
-        say::sentence(b"the name of the file is empty or too long");
-        return Opened::Stopped(2);
-    }
-    let w = Wanted {
-        any: false,
-        universe,
-        num_vals,
+    out: &mut Output,
+) -> Result<Builder, Failure> {
+    let name = older(file)?;
+    let old = name.bytes();
+    let seen = match look(rt, file, Some(settings), &mut *words) {
+        Ok(b) => {
+            sentences::holds(file, b, out);
+            return Ok(b);
+        }
+        Err(e) => e,
     };
-    let mut name = io::buffer();
-    let n = names::join(file, b".1", &mut name);
-    log_either(rt, file, &name[..n], w, words, out)
+    if seen == UNREADABLE {
+        return Err(stop(file, seen));
+    }
+    match look(rt, old, Some(settings), &mut *words) {
+        Ok(b) => {
+            if seen != MISSING {
+                set_aside(rt, file)?;
+            }
+            sentences::holds(old, b, out);
+            Ok(b)
+        }
+        Err(_) if seen != MISSING => Err(stop(file, seen)),
+        Err(e) if e != MISSING => Err(stop(old, e)),
+        Err(_) => begin(settings, words, out),
+    }
 }
 
-// There is no record in the file for what was seen: the older one.
-fn finish_instead(
-    rt: &HostRuntime,
-    file: &[u8],
-    s: Seen,
-    old: &[u8],
-    w: Wanted,
-    words: &mut [u64],
-) -> Opened {
-    let Seen::Held(b) = look(rt, old, w, words) else {
-        return stop(file, s);
+// The record to finish, of any settings: the older one where the file gives none, but can be read.
+pub fn to_finish(rt: &HostRuntime, file: &[u8], words: &mut [u64]) -> Result<Builder, Failure> {
+    let name = older(file)?;
+    let old = name.bytes();
+    let seen = match look(rt, file, None, &mut *words) {
+        Ok(b) => return Ok(b),
+        Err(e) => e,
     };
+    if seen == UNREADABLE {
+        return Err(stop(file, seen));
+    }
+    let b = look(rt, old, None, words).map_err(|_| stop(file, seen))?;
     say::of_file(old, b" is taken instead");
-    Opened::Record(b)
-}
-
-fn finish_either(
-    rt: &HostRuntime,
-    file: &[u8],
-    old: &[u8],
-    w: Wanted,
-    words: &mut [u64],
-) -> Opened {
-    let s = look(rt, file, w, &mut *words);
-    if let Seen::Held(b) = s {
-        return Opened::Record(b);
-    }
-    if let Seen::Unreadable = s {
-        return stop(file, s);
-    }
-    finish_instead(rt, file, s, old, w, words)
-}
-
-// The record to finish, of any settings.
-pub fn to_finish(rt: &HostRuntime, file: &[u8], words: &mut [u64]) -> Opened {
-    if !names::fits(file, 8) {
-        say::sentence(b"the name of the file is empty or too long");
-        return Opened::Stopped(2);
-    }
-    let w = Wanted {
-        any: true,
-        universe: 0,
-        num_vals: 0,
-    };
-    let mut name = io::buffer();
-    let n = names::join(file, b".1", &mut name);
-    finish_either(rt, file, &name[..n], w, words)
+    Ok(b)
 }

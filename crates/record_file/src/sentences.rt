@@ -1,45 +1,55 @@
 // What is said of a record, on standard error.
-use console_text::output;
+ghost use Rattle.std.specs.Prelude.{◌≡◌};
+
+use console_text::output::Output;
 use elias_fano::builder::Builder;
 use errors::Refusal;
 use word_files::say;
+use word_files::say::Failure;
+
+// What has gathered goes out.
+pub fn send(out: &mut Output) {
+    say::gathered(out.gathered());
+    out.clear();
+}
 
 // `burner: WHAT (refused N)`
-pub fn refused(out: &mut [u8; 65536], what: &[u8], e: Refusal) {
-    let a = output::text(out, 0, b"burner: ");
-    let b = output::text(out, a, what);
-    let c = output::text(out, b, b" (");
-    let d = output::refusal(out, c, e);
-    let f = output::text(out, d, b")\n");
-    say::gathered(out, f);
+pub fn refused(out: &mut Output, what: &[u8], e: Refusal) -> Failure
+    ensures { result ≡ Failure.Refused }
+{
+    out.text(b"burner: ");
+    out.text(what);
+    out.text(b" (");
+    out.refusal(e);
+    out.text(b")\n");
+    send(out);
+    Failure::Refused
 }
 
 // A record that may not be, by its count.
-pub fn no_record(out: &mut [u8; 65536], e: Refusal) {
-    refused(out, b"there is no such record", e);
-}
-
-// `N starts`
-fn starts(out: &mut [u8; 65536], at: usize, n: u64) -> usize {
-    let to = output::number(out, at, n);
-    if n == 1 {
-        return output::text(out, to, b" start");
-    }
-    output::text(out, to, b" starts")
+pub fn no_record(out: &mut Output, e: Refusal) -> Failure
+    ensures { result ≡ Failure.Refused }
+{
+    refused(out, b"there is no such record", e)
 }
 
 // How many times a record holds, and the last.
-pub fn holds(file: &[u8], b: Builder, out: &mut [u8; 65536]) {
+pub fn holds(file: &[u8], b: Builder, out: &mut Output) {
     if b.num_pushed == 0 {
         say::of_file(file, b" holds no start yet");
         return;
     }
-    let c = output::text(out, 0, b"burner: ");
-    let d = output::text(out, c, file);
-    let e = output::text(out, d, b" holds ");
-    let f = starts(out, e, b.num_pushed);
-    let g = output::text(out, f, b", the last at ");
-    let h = output::number(out, g, b.last);
-    let i = output::line_end(out, h);
-    say::gathered(out, i);
+    out.text(b"burner: ");
+    out.text(file);
+    out.text(b" holds ");
+    out.number(b.num_pushed);
+    out.text(if b.num_pushed == 1 {
+        b" start"
+    } else {
+        b" starts"
+    });
+    out.text(b", the last at ");
+    out.number(b.last);
+    out.line_end();
+    send(out);
 }

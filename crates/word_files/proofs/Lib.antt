@@ -1,4 +1,3 @@
 -- Laws of the definitions of `specs/`.
 pub mod Packing
-pub mod Loading
 pub mod Claims

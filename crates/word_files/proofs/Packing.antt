@@ -1,12 +1,15 @@
 -- Laws of words as bytes. Assumes nothing.
 use mathlib.Core.Path.{◌≡◌, refl, sym, ap, ap₂, ◌∙◌}
 use mathlib.Core.List.{List, [], ◌∷◌, ◌++◌}
-use Prim.Native.Nat.{ℕ, zero, suc, ◌+◌, ◌*◌, ◌-◌, ◌/◌, ◌%◌, ◌≤◌, ◌<◌}
-use native.Mathlib.Nat.{add-zero, zero-add}
+use Prim.Native.Nat.{ℕ, zero, suc, ◌+◌, ◌*◌, ◌-◌, ◌/◌, ◌%◌, ◌^◌, ◌≤◌, ◌<◌}
+use native.Mathlib.Nat.{add-zero, zero-add, div-one, pow-suc, div-div-eq-div-mul}
+use Rattle.std.proofs.Common.{append_assoc}
+use borrow.Rule.Slice.PartMut.{put_mid}
+use Rattle.std.specs.Int.{w64, byte_at, bytes_low_first, to_le_bytes, from_le_bytes}
 use native.Mathlib.Numerals.{add-one}
 use native.Mathlib.Omega.{arith}
 use lib.ListN.{length, take, drop, get_or, set, length-append, length-take}
-use lib.Seq.{sets, sets-eq, drop-cons, drop-drop}
+use lib.Seq.{sets, sets-eq, drop-cons, drop-drop, take_all}
 use Rattle.word_files.specs.Bytes.{digits, bytes_of, number, words_of, Filled, filled, room, pack_of, unpack_of}
 
 -- ---- lengths
@@ -38,19 +41,28 @@ sets_append (x ∷ xs) ys l i =
 sets_front : (xs l : List ℕ) (n : ℕ) → length xs ≡ n → n ≤ length l → sets l 0 xs ≡ xs ++ drop n l
 sets_front xs l n e h = sets-eq xs l 0 (omega (arith, e, h)) ∙ ap (λ (m : ℕ). xs ++ drop m l) (zero-add (length xs) ∙ e)
 
--- the k-th digit of a word is stored at the place after `at` with that number
-module _ (l : List ℕ) (at k rest : ℕ) where
-  pub digit_more : (b : ℕ) → k < 8 → b ≡ rest % 256 → sets l (at + k) (digits (8 - k) rest) ≡ sets (set l (at + k) b) (at + (k + 1)) (digits (8 - (k + 1)) (rest / 256))
-  unfolding digits
-  digit_more b h e =
-      let d : 8 - k ≡ suc (8 - (k + 1)) = omega arith in
-      let j : suc (at + k) ≡ at + (k + 1) = omega arith in
-      ap (λ (n : ℕ). sets l (at + k) (digits n rest)) d
-      ∙ ap₂ (λ (x i : ℕ). sets (set l (at + k) x) i (digits (8 - (k + 1)) (rest / 256))) (sym e) j
+-- ---- a word as the library's bytes
 
-  pub digit_done : 8 ≤ k → sets l (at + k) (digits (8 - k) rest) ≡ l
-  unfolding digits
-  digit_done h = let d : 8 - k ≡ 0 = omega arith in ap (λ (n : ℕ). sets l (at + k) (digits n rest)) d
+byte_low : (i w : ℕ) → byte_at i w ≡ (w / 256 ^ i) % 256
+byte_low zero w = ap (λ (v : ℕ). v % 256) (sym (div-one w))
+byte_low (suc i) w = refl
+
+low_first : (i k w : ℕ) → bytes_low_first i k w ≡ digits k (w / 256 ^ i)
+unfolding digits
+low_first i zero w = refl
+low_first i (suc k) w = ap₂ ◌∷◌ (byte_low i w) (low_first (suc i) k w ∙ ap (digits k) (ap (λ (d : ℕ). w / d) (pow-suc 256 i) ∙ sym (div-div-eq-div-mul w (256 ^ i) 256)))
+
+pub le_digits : (w : ℕ) → to_le_bytes w64 w ≡ digits 8 w
+le_digits w = low_first 0 8 w ∙ ap (digits 8) (div-one w)
+
+-- a write of them is one of the digits
+pub put_digits : (at k w : ℕ) (bs ys : List ℕ) → at + 8 ≤ length bs → k ≡ 8 → ys ≡ to_le_bytes w64 w → put_mid at k bs ys ≡ sets bs at (digits 8 w)
+put_digits at k w bs ys h e f =
+    let n : length (digits 8 w) ≡ 8 = length_digits 8 w in
+    ap₂ (λ (m : ℕ) (zs : List ℕ). put_mid at m bs zs) e (f ∙ le_digits w)
+    ∙ ap (λ (zs : List ℕ). take at bs ++ (digits 8 w ++ zs)) (drop-drop 8 at bs ∙ ap (λ (m : ℕ). drop (at + m) bs) (sym n))
+    ∙ sym (append_assoc (take at bs) (digits 8 w) (drop (at + length (digits 8 w)) bs))
+    ∙ sym (sets-eq (digits 8 w) bs at (omega (arith, n)))
 
 -- ---- a word from its bytes
 
@@ -80,6 +92,12 @@ module _ (bs : List ℕ) where
       let nc = number_next (at + 2) (at + 3) 5 c _ (omega arith) (omega arith) ec nd in
       let nb = number_next (at + 1) (at + 2) 6 b _ (omega arith) (omega arith) eb nc in
       number_next at (at + 1) 7 a _ refl (omega arith) ea nb
+
+-- eight bytes as the library reads them
+pub eight_bytes : (ys : List ℕ) → length ys ≡ 8 → from_le_bytes w64 ys ≡ number ys
+eight_bytes ys e =
+    let n = number_eight ys 0 _ _ _ _ _ _ _ _ (omega (arith, e)) refl refl refl refl refl refl refl refl in
+    (omega (arith, n)) ∙ ap number (take_all 8 ys (omega (arith, e)))
 
 -- ---- packing
 

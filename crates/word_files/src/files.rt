@@ -7,10 +7,7 @@ use std::fs::{File, OpenOptions};
 use std::io::{Error, ErrorKind};
 
 fn text(path: &[u8]) -> Result<&str, Error> {
-    match str::from_utf8(path) {
-        Ok(name) => Ok(name),
-        Err(_) => Err(Error::from(ErrorKind::InvalidInput)),
-    }
+    str::from_utf8(path).map_err(|_| Error::from(ErrorKind::InvalidInput))
 }
 
 // Whether a call failed because there is no such file.

@@ -11,12 +11,11 @@ mod reading;
 mod saving;
 pub mod say;
 
-use std::io::Error;
+use std::io::{Error, ErrorKind};
 
-#[derive(Clone, Copy)]
-pub enum Loaded {
-    // So many words stand at the front of those that are lent.
-    Words(usize),
+// Why a file does not give its words.
+#[derive(Clone, Copy, Debug, PartialEq, Eq)]
+pub enum LoadError {
     // There is no such file.
     Missing,
     // It cannot be opened or read.
@@ -27,40 +26,37 @@ pub enum Loaded {
     TooLong,
 }
 
-#[derive(Clone, Copy)]
-pub enum Saved {
-    Done,
-    // The file that stood there stands there still, unless only the directory could not be synced.
-    Failed,
-}
-
-// The file's words, at the front of those that are lent.
-pub fn load(rt: &HostRuntime, path: &[u8], words: &mut [u64]) -> Loaded
-    ensures { Within (length words.old) result }
-{
-    match files::open_read(rt, path) {
-        Ok(file) => reading::load_open(file, words),
-        Err(e) => not_opened(&e),
+// An open file that cannot be read.
+impl From<Error> for LoadError {
+    fn from(_e: Error) -> LoadError {
+        LoadError::Unreadable
     }
 }
 
 // A file that cannot be opened.
-fn not_opened(e: &Error) -> Loaded
-    ensures { Within 0 result }
-{
+fn not_opened(e: &Error) -> LoadError {
     if files::is_missing(e) {
-        return Loaded::Missing;
+        LoadError::Missing
+    } else {
+        LoadError::Unreadable
     }
-    Loaded::Unreadable
 }
 
-// The head and then the words become the file.
-pub fn save(rt: &HostRuntime, path: &[u8], head: &[u64], words: &[u64]) -> Saved {
-    if !names::fits(path, 4) {
-        return Saved::Failed;
+// The file's words, at the front of those that are lent; answers how many they are.
+pub fn load(rt: &HostRuntime, path: &[u8], words: &mut [u64]) -> Result<usize, LoadError>
+    ensures { Within (length words.old) result }
+{
+    match files::open_read(rt, path) {
+        Ok(file) => reading::load_open(file, words),
+        Err(e) => Err(not_opened(&e)),
     }
-    let Ok(dir) = names::open_directory(rt, path) else {
-        return Saved::Failed;
-    };
+}
+
+// The head and then the words become the file. On an error the file that stood there stands there still, unless only the directory could not be synced.
+pub fn save(rt: &HostRuntime, path: &[u8], head: &[u64], words: &[u64]) -> Result<(), Error> {
+    if !names::fits(path, 4) {
+        return Err(Error::from(ErrorKind::InvalidInput));
+    }
+    let dir = names::open_directory(rt, path)?;
     saving::save_in(rt, &dir, path, head, words)
 }

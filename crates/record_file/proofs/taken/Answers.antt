@@ -1,5 +1,5 @@
 -- `record_file::taken` meets its contract. Assumes nothing.
-use Rattle.std.proofs.Common.{ℕ, ◌<◌, [], sym, refl, ◌∙◌, subst, length-take-le}
+use Rattle.std.proofs.Common.{ℕ, ◌<◌, [], sym, refl, subst, length-take-le}
 use Rattle.record_file.proofs.Restoring as restoring
 use Rattle.record_file.proofs.taken.Goals as goal
 
@@ -11,23 +11,23 @@ returns-then-not-has_start c =
     restoring.other_start c.args.words.now [] c.args.n 0 _ c.if-n-lt-HEAD_LEN.false c.requires c.builder_in-b.ensures
     (c.has_start.ensures.no c.if-not-has_start.true)
 
-pub returns-then-is_right_in : goal.returns-then-is_right_in
-returns-then-is_right_in c =
-    restoring.held_stored c.args.words.now c.clear.new.words c.args.n _ _
+pub returns-then-is_right : goal.returns-then-is_right
+returns-then-is_right c =
+    restoring.held_stored c.args.words.now _ c.args.n _ _
     c.if-n-lt-HEAD_LEN.false
     c.requires
     c.builder_in-b.ensures
     refl
-    (c.clear.ensures ∙ c.move_down.ensures)
+    (restoring.moved_front c.args.words.now _ c.fill.new.self c.args.n _ c.if-n-lt-HEAD_LEN.false c.requires c.copy_within.ensures.after)
     (c.has_start.ensures.yes c.if-not-has_start.false)
-    (c.is_right_in.ensures.yes c.if-is_right_in.true)
+    (c.is_right.ensures.yes c.if-is_right.true)
 
-pub returns : goal.returns
-returns c =
-    restoring.not_right c.args.words.now c.clear.new.words c.args.n _ _
+pub returns-else-is_right : goal.returns-else-is_right
+returns-else-is_right c =
+    restoring.not_right c.args.words.now _ c.args.n _ _
     c.if-n-lt-HEAD_LEN.false
     c.requires
     c.builder_in-b.ensures
     refl
-    (c.clear.ensures ∙ c.move_down.ensures)
-    (c.is_right_in.ensures.no c.if-is_right_in.false)
+    (restoring.moved_front c.args.words.now _ c.fill.new.self c.args.n _ c.if-n-lt-HEAD_LEN.false c.requires c.copy_within.ensures.after)
+    (c.is_right.ensures.no c.if-is_right.false)

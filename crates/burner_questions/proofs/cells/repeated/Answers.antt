@@ -1,27 +1,22 @@
--- `burner_questions::cells::repeated` meets its contract. The invariant: what is left goes after what has gathered. Assumes nothing.
-use mathlib.Core.Path.{◌≡◌, ap, sym, ◌∙◌}
-use native.Mathlib.Omega.{arith}
-use Prim.Native.Nat.{ℕ, suc, ◌+◌, ◌-◌}
-use lib.ListN.{replicate}
-use Rattle.console_text.specs.Gathered.{Gathered, gathered, with_text}
+-- `burner_questions::cells::repeated` meets its contract. Assumes nothing.
+use Rattle.std.proofs.Common.{ℕ, suc, ◌≡◌, ◌+◌, ◌-◌, replicate, ap, sym, ◌∙◌, arith}
+use Rattle.console_text.specs.Gathered.{Gathered, with_text}
+use Rattle.console_text.specs.Held.{held}
 use Rattle.burner_questions.proofs.Columns.{again_more, again_done}
 use Rattle.burner_questions.proofs.cells.repeated.Goals as goal
 
-pub loop-i-init : goal.loop-i-init
-loop-i-init c =
-    let a = c.args in
-    let e : a.n ≡ a.n - 0 = omega arith in
-    (omega arith, ap (λ (k : ℕ). with_text (gathered a.at a.out.now) (replicate k a.b)) e)
+pub loop-init : goal.loop-init
+loop-init c = let a = c.args in let e : a.n ≡ a.n - 0 = omega arith in ap (λ (k : ℕ). with_text (held a.out.now) (replicate k a.b)) e
 
-pub loop-i-preserved : goal.loop-i-preserved
-loop-i-preserved c =
-    let l = c.loop-i in
+pub loop-preserved : goal.loop-preserved
+loop-preserved c =
+    let l = c.loop in
     let a = c.args in
-    let e : a.n - l.i ≡ suc (a.n - (l.i + 1)) = omega arith in
-    (omega arith, l.invariant.1 ∙ again_more (gathered l.to l.out) a.b (a.n - l.i) (a.n - (l.i + 1)) e ∙ ap (λ (g : Gathered). with_text g (replicate (a.n - (l.i + 1)) a.b)) (sym c.byte-to.ensures))
+    let e : a.n - l.counter ≡ suc (a.n - (l.counter + 1)) = omega arith in
+    l.invariant ∙ again_more (held l.out) a.b (a.n - l.counter) (a.n - (l.counter + 1)) e ∙ ap (λ (g : Gathered). with_text g (replicate (a.n - (l.counter + 1)) a.b)) (sym c.byte.ensures)
 
 pub returns : goal.returns
 returns c =
-    let l = c.loop-i in
+    let l = c.loop in
     let a = c.args in
-    sym (l.invariant.1 ∙ again_done (gathered l.to l.out) a.b (a.n - l.i) (omega arith))
+    sym (l.invariant ∙ again_done (held l.out) a.b (a.n - l.counter) (omega arith))

@@ -3,7 +3,7 @@ use mathlib.Core.Path.{ap, ◌∙◌}
 use mathlib.Core.List.{List}
 use Prim.Native.Nat.{ℕ}
 use Rattle.elias_fano.specs.Ask.{read_from_of}
-use Rattle.console_text.specs.Gathered.{gathered}
+use Rattle.console_text.specs.Held.{held}
 use Rattle.console_questions.specs.Questions.{with_read}
 use Rattle.console_questions.proofs.Telling.{take_equal}
 use Rattle.console_questions.proofs.read.answer.Goals as goal
@@ -11,4 +11,4 @@ use Rattle.console_questions.proofs.read.answer.Goals as goal
 pub returns : goal.returns
 returns c =
     let a = c.args in
-    c.into_first.ensures ∙ ap (λ (w : List ℕ). with_read (read_from_of a.image.now a.k w) (gathered a.at a.out.now)) (take_equal a.count 4096 0 c.requires)
+    c.into.ensures ∙ ap (λ (l : List ℕ). with_read (read_from_of a.image.now a.k l) (held a.out.now)) (take_equal a.count 4096 0 c.requires)

@@ -13,5 +13,5 @@ pub returns : goal.returns
 returns c =
     let a = c.args in
     c.within.ensures
-    ∙ ap (λ (l : List ℕ). whole_within (from_slice_of l) a.s a.buffer.now)
-    (c.first.ensures ∙ ap (take a.n) c.store.ensures ∙ stored_values a.items.now (fields (drop a.end a.text.now)) a.n c.requires.0 c.requires.1)
+    ∙ ap (λ (l : List ℕ). whole_within (from_slice_of l) a.s.now a.buffer.now)
+    (c.first-items.ensures ∙ ap (take a.n) c.store.ensures ∙ stored_values a.items.now (fields (drop a.end a.text.now)) a.n c.requires.0 c.requires.1)

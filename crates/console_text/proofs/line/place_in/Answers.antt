@@ -4,9 +4,6 @@ use native.Mathlib.Omega.{arith}
 use Rattle.console_text.proofs.Reading.{place_hit, place_miss, place_end}
 use Rattle.console_text.proofs.line.place_in.Goals as goal
 
-pub loop-at-init : goal.loop-at-init
-loop-at-init c = (omega arith, omega arith)
-
 pub returns-then-same : goal.returns-then-same
 returns-then-same c =
     let l = c.loop-at in

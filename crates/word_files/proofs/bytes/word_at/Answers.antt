@@ -1,15 +1,18 @@
 -- `word_files::bytes::word_at` meets its contract. Assumes nothing.
-use Rattle.word_files.proofs.Packing.{number_eight}
+use Rattle.std.proofs.Common.{◌≡◌, ◌-◌, length, take, drop, arith, ap, ◌∙◌}
+use Rattle.std.proofs.lemmas.List.{length-drop, length-take-le}
+use Rattle.std.proofs.lemmas.Option.{MatchOption-at_some}
+use lib.Seq.{take_all}
+use Rattle.word_files.specs.Bytes.{number}
+use Rattle.word_files.proofs.Packing.{eight_bytes}
 use Rattle.word_files.proofs.bytes.word_at.Goals as goal
 
 pub returns : goal.returns
 returns c =
-    number_eight c.args.bytes.now c.args.at _ _ _ _ _ _ _ _ c.requires
-    c.byte_at-a.ensures.value
-    c.byte_at-b.ensures.value
-    c.byte_at-c.ensures.value
-    c.byte_at-d.ensures.value
-    c.byte_at-e.ensures.value
-    c.byte_at-f.ensures.value
-    c.byte_at-g.ensures.value
-    c.byte_at-h.ensures.value
+    let bs = c.args.bytes.now in
+    let rest = drop c.args.at bs in
+    let n = length-drop c.args.at bs in
+    let same : take (length bs - c.args.at) rest ≡ rest = take_all _ rest (omega (arith, n)) in
+    let e = MatchOption-at_some _ _ c.unwrap.result c.unwrap.ensures c.first_chunk.ensures.cases in
+    let f : c.unwrap.result.now ≡ take 8 rest = e.same ∙ ap (take 8) same in
+    c.from_le_bytes.ensures ∙ eight_bytes _ (ap length f ∙ length-take-le 8 rest (omega (arith, n))) ∙ ap number f

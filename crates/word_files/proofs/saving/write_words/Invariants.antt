@@ -1,11 +1,6 @@
--- `word_files::saving::write_words` is safe and ends. The measure is how many words are left. Assumes nothing.
-use Prim.Native.Nat.{◌≤◌, ◌-◌}
-use lib.ListN.{length}
-use mathlib.Core.Path.{◌≡◌}
+-- `word_files::saving::write_words` is safe and ends. Assumes nothing.
+use Rattle.std.proofs.Common.{◌≡◌, length}
 use Rattle.word_files.proofs.saving.write_words.Given as goal
 
-abbrev pub invariant-loop-i : goal.invariant-loop-i
-invariant-loop-i l = (l.i ≤ length l.words) × (length l.buf ≡ length l.initial.buf)
-
-abbrev pub decreases-loop-i : goal.decreases-loop-i
-decreases-loop-i l = length l.words - l.i
+abbrev pub invariant-loop-part : goal.invariant-loop-part
+invariant-loop-part l = (goal.iterator-loop-part).can_next l.part-iterator × (goal.iterator-loop-part).is_finite l.part-iterator × (length l.buf ≡ 65536)

@@ -1,0 +1,2 @@
+-- Definitions that the contracts of `burner` cite.
+pub mod Usage
