@@ -1,7 +1,5 @@
 -- What each call on a bit vector answers and leaves, document 01, "Odd spots" and "Refusals". Assumes nothing.
-use Rattle.errors.specs.declared.Refusal.{Refusal}
-use Rattle.std.specs.Prelude.{List, ◌++◌, Bool, cond, ℕ, ◌+◌, ◌-◌, ◌*◌, ◌/◌, ◌%◌, ◌^◌, min, leb, ltb, length, get_or, set, take, drop, Ok, Err, Some, None, Result, Option, ⊤}
-use Rattle.errors.specs.Refusal.{number_of}
+use Rattle.std.specs.Prelude.{List, ◌++◌, Bool, cond, ℕ, ◌+◌, ◌-◌, ◌*◌, ◌/◌, ◌%◌, ◌^◌, min, leb, ltb, length, get_or, set, take, drop}
 use Rattle.errors.specs.Answer.{Answer, value, none, done, refused, Outcome, leaves, of_option}
 use Rattle.broadword.specs.Bits.{count}
 use Rattle.broadword.specs.Fields.{flag, word}

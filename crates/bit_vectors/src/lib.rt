@@ -3,5 +3,3 @@
 
 pub mod bit_vector;
 pub mod unary;
-
-use errors::Refusal;

@@ -4,7 +4,6 @@ pub mod Count
 pub mod Fields
 pub mod Find
 pub mod Lowest
-pub mod Product
 pub mod Spread
 pub mod Table
 pub mod Threshold

@@ -1,6 +1,6 @@
 -- Where a one stands in a run of bits: the last one, and the one that k ones stand before. Assumes nothing.
 use Rattle.std.specs.Prelude.{◌&&◌, cond, ℕ, zero, suc, eqb, Some, None, Option}
-use Rattle.broadword.specs.Bits.{bit, count}
+use Rattle.broadword.specs.Bits.{count}
 
 -- the highest place below n at which f is 1
 unfoldable pub last : (ℕ → ℕ) → ℕ → Option ℕ

@@ -6,7 +6,7 @@ ghost use Rattle.elias_fano_words.specs.Sizes.{index_len};
 ghost use Rattle.elias_fano_words.specs.Times.{holds, holds_if};
 ghost use Rattle.elias_fano.specs.Accept.{universe as universe_of, declared, pushed, parts_by, parts_of, no_parts, times, of_opened, open_if, open_of};
 ghost use Rattle.elias_fano.specs.Ask.{Select, asked, query};
-ghost use Rattle.elias_fano.specs.Opening.{Counts, Limits, Complete, Headed, Heads, bits_in, Indexes, Open, OneAt};
+ghost use Rattle.elias_fano.specs.Opening.{Counts, Limits, Complete, Headed, Heads, bits_in, Indexes, OneAt};
 
 use crate::opened::Image;
 use bit_words::words_for;

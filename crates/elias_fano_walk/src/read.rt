@@ -1,7 +1,7 @@
 // Reading out: the values from a number on, as many as the lent words take (document 01: reading out).
-ghost use Rattle.std.specs.Prelude.{true, ◌≡◌, ◌++◌, ◌-◌, ◌≤◌, min, length, take as take_list, drop};
+ghost use Rattle.std.specs.Prelude.{◌≡◌, ◌++◌, ◌-◌, ◌≤◌, min, length, take as take_list, drop};
 ghost use Rattle.errors.specs.Answer.{leaves, of_result};
-ghost use Rattle.elias_fano.specs.Accept.{accepted, parts_of, times};
+ghost use Rattle.elias_fano.specs.Accept.{times};
 ghost use Rattle.elias_fano.specs.Ask.{read_out, filled, read_from_of};
 ghost use Rattle.elias_fano_walk.specs.Walking.{WalkOver};
 

@@ -3,7 +3,7 @@
 // The functions here are inner: they demand an opened image, and a walk over it as `begin` and each step leave it. A step costs a constant and
 // the high words that it passes; a walk reads each high word once, and low bits 63 at a time. What a step hands on takes no product and no
 // table, so the next need not wait for them.
-ghost use Rattle.std.specs.Prelude.{◌≡◌, true, suc, ◌*◌, ◌/◌, ◌^◌, ◌<◌, get_or};
+ghost use Rattle.std.specs.Prelude.{◌≡◌, suc, ◌*◌, ◌/◌, ◌^◌, ◌<◌, get_or};
 ghost use Rattle.elias_fano.specs.Accept.{times};
 ghost use Rattle.elias_fano.specs.Opening.{OneAt};
 ghost use Rattle.elias_fano_walk.specs.Walking.{WalkOver, OnesAhead, LowsAhead, OneTaken, low_part, of_value_step, value_step_of};

@@ -2,9 +2,9 @@
 // select. Its state is a value beside the image, which each step takes again. `start_items` decides 7 once; no words have no items.
 //
 // `next_item` and `take_item` are inner: they demand the parts of the image and a walk over it, as `start_items` and each step leave it.
-ghost use Rattle.std.specs.Prelude.{true, ◌≡◌, ◌∷◌, ◌++◌, suc, ◌-◌, ◌≤◌, ◌<◌, length, get_or, take as take_list, drop};
+ghost use Rattle.std.specs.Prelude.{◌≡◌, ◌∷◌, ◌++◌, suc, ◌-◌, ◌≤◌, ◌<◌, length, get_or, take as take_list, drop};
 ghost use Rattle.errors.specs.Answer.{leaves, of_result};
-ghost use Rattle.elias_fano.specs.Accept.{accepted, parts_of, no_parts, times};
+ghost use Rattle.elias_fano.specs.Accept.{parts_of, no_parts, times};
 ghost use Rattle.elias_fano.specs.Ask.{read_out, filled};
 ghost use Rattle.elias_fano_walk.specs.Walking.{value_step_of};
 ghost use Rattle.prefix_summed_elias_fano.specs.Items.{items_of, ItemsOver, StartsItems, of_item_step, read_items_of};

@@ -63,14 +63,6 @@ module _ (p : Parts) (len : ℕ) (c : Bool) where
   pub other_length : (p.universe ≡ len → ⊥) → false ≡ whole
   other_length h = sym (ap (λ (b : Bool). b && (eqb (flag p.rank) (flag c) && eqb p.num_pushed p.num_vals)) (ne_eqb p.universe len h))
 
-  pub other_choice : p.universe ≡ len → (flag p.rank ≡ flag c → ⊥) → false ≡ whole
-  other_choice e h =
-      sym (ap₂ (λ (a b : Bool). a && (b && eqb p.num_pushed p.num_vals)) (eq-eqb p.universe len e) (ne_eqb (flag p.rank) (flag c) h))
-
-  pub all_fits : p.universe ≡ len → flag p.rank ≡ flag c → eqb p.num_pushed p.num_vals ≡ whole
-  all_fits e h =
-      sym (ap₂ (λ (a b : Bool). a && (b && eqb p.num_pushed p.num_vals)) (eq-eqb p.universe len e) (eq-eqb (flag p.rank) (flag c) h))
-
 -- ---- opening
 
 module _ (i : List ℕ) (len : ℕ) (c : Bool) where

@@ -1,8 +1,8 @@
 -- `bit_vectors::bit_vector::push_bits` meets its contract.
 -- Assumes nothing.
-use Rattle.std.specs.Prelude.{Result, ⊤}
+use Rattle.std.specs.Prelude.{Result}
 use Rattle.errors.specs.declared.Refusal.{Refusal}
-use Rattle.errors.specs.Answer.{leaves, of_done, of_result}
+use Rattle.errors.specs.Answer.{leaves, of_result}
 use Rattle.bit_words.proofs.Valid.{refused_bits}
 use mathlib.Core.Path.{sym, ap, ◌∙◌, subst}
 use Prim.Native.Nat.{ℕ, ◌+◌, ◌^◌, ◌<◌}

@@ -2,7 +2,7 @@
 -- Assumes nothing.
 use Rattle.std.specs.Prelude.{Result, ⊤}
 use Rattle.errors.specs.declared.Refusal.{Refusal}
-use Rattle.errors.specs.Answer.{leaves, of_done, of_result}
+use Rattle.errors.specs.Answer.{leaves, of_done}
 use Rattle.bit_words.proofs.Valid.{refused_bits}
 use mathlib.Core.Path.{sym, ap, ◌∙◌}
 use Prim.Native.Nat.{ℕ, ◌/◌}
