@@ -1,8 +1,8 @@
 // A walk over the ones of a bit vector. Its state is a value beside the words and the length, which each call takes again.
 //
 // `next` takes the place that it gives; `skip1` and `skip0` stop on it without taking it. A none ends the walk. `next_within` is `next` for a
-// caller that loops: it demands a walk over these bits, as `new` and each step leave it, and the table of `lsb`, and costs a constant and the
-// words that it passes.
+// caller that loops: it demands a walk over these bits, as `new` and each step leave it, and costs a constant and the words that it
+// passes.
 ghost use Rattle.std.specs.Prelude.{◌≡◌, true, false, ◌*◌, ◌/◌, ◌%◌, ◌^◌, ◌≤◌, ◌<◌, length, get_or};
 ghost use Rattle.bit_words.specs.Vector.{bit_over, invalid};
 ghost use Rattle.bit_words.specs.Inner.{Skipped};
@@ -120,7 +120,7 @@ fn left_of(words: &[u64], len: usize, w: Unary) -> Left
     }
 }
 
-// `next`, of a walk over these bits, with the table of `lsb` lent.
+// `next`, of a walk over these bits.
 pub fn next_within(words: &[u64], len: usize, w: Unary) -> Stepped
     requires { Walking words.now len w }
     ensures { of_stepped result ≡ next_of words.now len w }

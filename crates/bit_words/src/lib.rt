@@ -1,6 +1,6 @@
 // The words of a bit vector: what the calls on it, and the layers that hold words of their own, share.
 //
-// `words_for` and `is_invalid` take anything. The others are inner: each demands the words that it reads, as its `requires` says.
+// `words_for`, `is_invalid` and `checked` take anything. The others are inner: each demands the words that it reads, as its `requires` says.
 #![tactic(auto)]
 
 ghost use Rattle.std.specs.Prelude.{◌≡◌, true, false, MatchResult, ◌+◌, ◌-◌, ◌*◌, ◌/◌, ◌%◌, ◌^◌, ◌<◌, ◌≤◌, ◌++◌, length, get_or, take, drop, replicate, Some};
@@ -39,7 +39,7 @@ pub fn is_invalid(words: &[u64], len: usize) -> bool
     words[last] >> left != 0
 }
 
-// The same as a refusal: of no other bits does a call answer.
+// Refuses words that are no bit vector of this length.
 pub fn checked(words: &[u64], len: usize) -> Result<(), Refusal>
     ensures { MatchResult result (λ _. invalid words.now len ≡ false) (λ e. (e ≡ InvalidBits) × (invalid words.now len ≡ true)) }
 {

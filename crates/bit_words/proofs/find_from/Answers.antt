@@ -13,13 +13,6 @@ use Rattle.bit_words.proofs.Runs.{left_lt}
 use Rattle.bit_words.proofs.Search.{first_is, find_first, find_none, find_word}
 use Rattle.bit_words.proofs.find_from.Goals as goal
 
-pub select_in_word_within-requires : goal.select_in_word_within-requires
-select_in_word_within-requires c =
-    let from : ℕ = c.args.from in
-    let x : ℕ = (c.word_over.result / 2 ^ (from % 64) * 2 ^ (from % 64)) % 2 ^ 64 in
-    let fewer : c.args.k < ones (x) 64 = subst (λ (n : ℕ). c.args.k < n) c.popcount-ones.ensures c.if-k-ones.true in
-    (fewer)
-
 pub overflow_add-result : goal.overflow_add-result
 overflow_add-result c =
     let from : ℕ = c.args.from in

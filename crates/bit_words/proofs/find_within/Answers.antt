@@ -1,7 +1,7 @@
 -- `bit_words::find_within` meets its contract.
 -- Assumes nothing.
 use Rattle.std.specs.Prelude.{Some}
-use mathlib.Core.Path.{◌≡◌, subst}
+use mathlib.Core.Path.{◌≡◌}
 use Prim.Native.Nat.{ℕ, ◌+◌, ◌*◌, ◌/◌, ◌≤◌, ◌<◌}
 use native.Mathlib.Omega.{arith}
 use Rattle.broadword.specs.Bits.{count}
@@ -18,9 +18,6 @@ here : (c : goal.After-select_in_word_within) → (c.args.from + c.select_in_wor
 here c =
     ahead_at c.args.over_one c.args.words.now c.args.used c.args.from c.args.k c.window_over-bits.result c.window_over-bits.ensures c.requires.1 c.select_in_word_within.result (upto c.args.used c.args.from c.requires.0.start) c.select_in_word_within.ensures
 
-pub select_in_word_within-requires : goal.select_in_word_within-requires
-select_in_word_within-requires c = (subst (λ (n : ℕ). c.args.k < n) c.popcount.ensures c.if-k-popcount.true)
-
 pub overflow_add-result : goal.overflow_add-result
 overflow_add-result c = let l = (here c).0 in let f = c.requires.0.few in omega arith
 
@@ -30,6 +27,3 @@ returns-then-k-popcount c = (here c).1
 pub find_by_words-requires : goal.find_by_words-requires
 find_by_words-requires c =
     (c.requires.0, c.requires.1, ahead_past c.args.over_one c.args.words.now c.args.used c.args.from c.args.k c.window_over-bits.result c.window_over-bits.ensures c.requires.1 c.popcount.result c.popcount.ensures c.if-k-popcount.false (upto c.args.used c.args.from c.requires.0.start))
-
-pub returns : goal.returns
-returns c = c.find_by_words.ensures

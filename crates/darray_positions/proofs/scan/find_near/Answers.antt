@@ -11,6 +11,3 @@ pub place_at-requires : goal.place_at-requires
 place_at-requires c =
     let r = scan.reached c.args.over_one c.args.words.now c.args.k c.requires.1 c.args.from c.advance-cursor.result c.advance-cursor.ensures in
     (c.advance-cursor.ensures.ahead, r.0, r.1, r.2)
-
-pub returns : goal.returns
-returns c = record { position = c.place_at.ensures; ahead = c.advance-cursor.ensures.ahead }

@@ -1,8 +1,8 @@
 -- `darray_positions::scan::full_blocks` meets its contract: the invariant says that `overflow` counts what the blocks before j spill, and that they end before
 -- the word `end`.
 -- Assumes nothing.
-use mathlib.Core.Path.{◌≡◌, refl, ap, ◌∙◌}
-use Prim.Native.Nat.{ℕ, ◌+◌, ◌*◌, ◌/◌, ◌≤◌, ◌<◌}
+use mathlib.Core.Path.{◌≡◌, refl}
+use Prim.Native.Nat.{◌+◌, ◌*◌, ◌/◌, ◌≤◌, ◌<◌}
 use native.Mathlib.Omega.{arith}
 use Rattle.broadword.specs.Bits.{count}
 use Rattle.broadword.proofs.Count.{count_mono}
@@ -24,44 +24,17 @@ overflow_mul-k c =
     omega (arith, c.loop-first.invariant.3, scan.count_few a.over_one a.words.now (a.len / 64 * 64)) in
     omega (arith, few, c.requires.1)
 
-pub seek-first-requires : goal.seek-first-requires
-seek-first-requires c = (c.loop-first.invariant.1, record { upto = c.loop-first.invariant.2; room = omega (arith, c.requires.0) })
-
 pub overflow_add-k : goal.overflow_add-k
 overflow_add-k c =
     let few : 1024 * c.loop-first.j ≤ c.args.len = let a = c.args in
     omega (arith, c.loop-first.invariant.3, scan.count_few a.over_one a.words.now (a.len / 64 * 64)) in
     omega (arith, few, c.requires.1)
 
-pub seek-last-requires : goal.seek-last-requires
-seek-last-requires c =
-    (block.ahead_le _ _ _ _ (omega arith) c.seek-first.ensures.ahead, record { upto = c.seek-first.ensures.upto; room = omega (arith, c.requires.0) })
-
-pub returns-then-last-end : goal.returns-then-last-end
-returns-then-last-end c =
-    let l = c.loop-first in
-    let f : ℕ → ℕ = bit_over c.args.over_one c.args.words.now in
-    let e : c.seek-last.result.before ≡ count f (c.args.len / 64 * 64) = c.seek-last.ensures.ahead.counted ∙ ap (λ (w : ℕ). count f (w * 64)) c.if-last-end.true in
-    record { spilled = l.invariant.0; ahead = l.invariant.1; counted = e; there = omega (arith, l.invariant.3) }
-
-pub place_at-requires : goal.place_at-requires
-place_at-requires c =
-    let ends : c.seek-last.result.word < c.args.len / 64 = omega (arith, c.if-last-end.false, c.seek-last.ensures.upto) in
-    let g = c.seek-first.ensures in
-    let h : c.seek-first.result.word < c.args.len / 64 = omega (arith, ends, c.seek-last.ensures.on) in
-    (g.ahead, omega (arith, c.requires.0), omega (arith, c.requires.1), g.here h)
-
 pub overflow_add-k-in-loop-first : goal.overflow_add-k-in-loop-first
 overflow_add-k-in-loop-first c =
     let few : 1024 * c.loop-first.j ≤ c.args.len = let a = c.args in
     omega (arith, c.loop-first.invariant.3, scan.count_few a.over_one a.words.now (a.len / 64 * 64)) in
     omega (arith, few, c.requires.1)
-
-pub place_at-requires-in-loop-first : goal.place_at-requires-in-loop-first
-place_at-requires-in-loop-first c =
-    let ends : c.seek-last.result.word < c.args.len / 64 = omega (arith, c.if-last-end.false, c.seek-last.ensures.upto) in
-    let g = c.seek-last.ensures in
-    (g.ahead, omega (arith, ends, c.requires.0), omega (arith, ends, c.requires.1), g.here (ends))
 
 pub spilled-overflow-requires : goal.spilled-overflow-requires
 spilled-overflow-requires c = block.position_le _ _ _ _ _ c.place_at.ensures c.place_at-in-loop-first.ensures (omega arith)

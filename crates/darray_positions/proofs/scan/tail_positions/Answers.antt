@@ -1,23 +1,11 @@
 -- `darray_positions::scan::tail_positions` meets its contract.
 -- Assumes nothing.
-use mathlib.Core.Path.{◌≡◌, refl, ap, ◌∙◌}
+use mathlib.Core.Path.{refl, ap, ◌∙◌}
 use Prim.Native.Nat.{ℕ, ◌*◌, ◌/◌, ◌%◌, ◌^◌}
-use native.Mathlib.Nat.{add-zero}
-use native.Mathlib.Omega.{arith}
 use Rattle.broadword.specs.Bits.{count, ones}
 use Rattle.bit_words.specs.Vector.{bit_over}
 use Rattle.darray_positions.proofs.Counts as scan
 use Rattle.darray_positions.proofs.scan.tail_positions.Goals as goal
-
-pub returns-then-left-eq0 : goal.returns-then-left-eq0
-returns-then-left-eq0 c =
-    let a = c.args in
-    let f : ℕ → ℕ = bit_over a.over_one a.words.now in
-    let e : a.len / 64 * 64 ≡ a.len = omega arith in
-    add-zero (count f (a.len / 64 * 64)) ∙ ap (count f) e
-
-pub word_over-requires : goal.word_over-requires
-word_over-requires c = omega arith
 
 pub returns : goal.returns
 returns c =
