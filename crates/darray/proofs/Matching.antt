@@ -17,9 +17,7 @@ use Rattle.std.proofs.lemmas.Bool.Decides.{Decides-eqb}
 use Rattle.std.proofs.lemmas.Slice.Eq.{slice_eq-Decides}
 use Rattle.broadword.proofs.Truth.{true_false}
 use Rattle.darray_positions.specs.Index.{blocks, size, spill, before, entry, lane_word, lane_words, overflow, index_words}
-use Rattle.darray.specs.Pending.{Decides, Reads, Matches, SameWords, Compares, block_spill, lanes_at, over_at}
-use Rattle.darray.specs.declared.inner.Sizes.{Sizes}
-use Rattle.std.specs.Bool.{then_some}
+use Rattle.darray.specs.Pending.{Decides, Reads, Matches}
 use Rattle.darray.specs.Queries.{same}
 use Rattle.darray_positions.proofs.Index as index
 use Rattle.darray_positions.proofs.Index.{Holds}
@@ -53,11 +51,6 @@ reads_is l at end s n r e h k q =
           let m : i < n = subst (λ (z : ℕ). i < z) long g in
           part i m ∙ x i m ∙ sym (get_or-take n s i 0 m)))) ∙ f);
     }
-
--- a block with room whose words were compared
-pub compares_by : (a : List ℕ) (n : ℕ) (s : Sizes) (j o : ℕ) (l : List ℕ) (r : Bool) (k : ℕ) → Decides r (Matches a n j (lanes_at s j) o (over_at s o) l) → k ≡ block_spill a n → o + k ≤ s.overflow → Compares a n s j o l (then_some r k)
-compares_by a n s j o l true k d e h = (e, record { room = omega arith; matches = d.yes refl })
-compares_by a n s j o l false k d e h = λ (m : SameWords a n s j o l). d.no refl m.matches
 
 -- ---- the block j of the positions P
 

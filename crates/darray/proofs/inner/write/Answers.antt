@@ -3,7 +3,6 @@
 use Rattle.std.proofs.Common.{arith, ℕ, ◌+◌, ◌≡◌}
 use Rattle.std.proofs.Math.ListN.{length-replicate}
 use Rattle.darray.proofs.Writing as writing
-use Rattle.darray.proofs.Writing.{Writing}
 use Rattle.darray.proofs.inner.write.Goals as goal
 
 pub loop-j-init : goal.loop-j-init
