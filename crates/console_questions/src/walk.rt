@@ -20,7 +20,9 @@ struct Values<'a> {
 
 impl<'a> Steps for Values<'a> {
     ghost ready = { λ v. WalkOver v.image.words.now v.image.parts v.walk };
+
     ghost over = { λ v. times v.image.words.now };
+
     ghost number = { λ v. v.walk.number };
 
     fn step(&mut self) -> Reply {

@@ -25,7 +25,7 @@ fn counted(numbers: &[u64], image: &[u64]) -> Reply
     count(image, &numbers[2..], numbers[0], numbers[1]).reply()
 }
 
-// Of the n numbers after the word that ends at `end`, by way of `numbers`.
+// Of the n numbers after the word that ends at `end`, by way of `numbers`: a slice that `store` handed back would say no more.
 fn stored(text: &[u8], end: usize, n: usize, numbers: &mut [u64], image: &[u64]) -> Reply
     requires { (n ≡ length (fields (drop end text.now))) × (2 ≤ n) × (n ≤ length numbers.old) }
     ensures { says_of result ≡ count_says image.now (values_of (fields (drop end text.now))) }

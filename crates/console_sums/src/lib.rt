@@ -57,7 +57,7 @@ impl Command {
     }
 }
 
-// None: the name is none of the two.
+// None: the name is none of the two. As the questions' own `answer`: a trait over both enums would be longer than the two.
 pub fn answer(name: &[u8], r: Arguments, image: &[u64]) -> Option<Reply>
     ensures { says_if result ≡ answer_of name.now r image.now }
 {

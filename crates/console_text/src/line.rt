@@ -42,6 +42,7 @@ pub fn same(a: &[u8], b: &[u8]) -> bool
     a == b
 }
 
+// Here and below the words are walked by `word_end`: `split` makes a word of an empty text, and these lists have none there.
 // Which word of the list the name is, counted from 0, or how many words the list has.
 pub fn place_in(list: &[u8], name: &[u8]) -> usize
     ensures { result ≡ place_among (words_in list.now) name.now }
