@@ -1,12 +1,8 @@
 -- Laws of `windows S E W..`. Assumes nothing.
 use mathlib.Core.Path.{◌≡◌}
 use mathlib.Core.Bool.{true}
-use mathlib.Core.List.{List}
-use Prim.Native.Nat.{ℕ, ◌-◌, ◌≤◌}
-use native.Mathlib.Omega.{arith}
+use Prim.Native.Nat.{◌≤◌}
 use lib.Dec.{leb}
-use lib.ListN.{length, take, drop, length-drop}
-use lib.Seq.{take_all}
 use borrow.Author.Tests.{leb-true}
 use Rattle.broadword.proofs.Truth.{and_true}
 use Rattle.console_text.specs.declared.line.Arguments.{Arguments}

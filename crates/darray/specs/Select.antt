@@ -1,16 +1,12 @@
 -- What select through the index demands, and how an entry is read. Assumes nothing.
-use Rattle.std.specs.Prelude.{◌≡◌, List, Bool, false, cond, ℕ, ◌-◌, ◌^◌, ◌<◌, ltb, ℤ, pos, negsuc, length}
+use Rattle.std.specs.Prelude.{◌≡◌, List, Bool, false, cond, ℕ, ◌-◌, ◌^◌, ◌<◌, ltb, length}
 use Rattle.bit_words.specs.Vector.{invalid}
 use Rattle.darray_positions.specs.Index.{index_words}
 use Rattle.darray_positions.specs.Positions.{positions}
 use Rattle.darray.specs.declared.select.Entry.{Entry}
 use Rattle.darray.specs.declared.select.Entry.TheVariants.{First, Overflow}
 
--- a two's complement word as a number
-abbrev pub signed_of : ℕ → ℤ
-signed_of w = cond (ltb w (2 ^ 63)) (pos w) (negsuc (2 ^ 64 - 1 - w))
-
--- a negative entry e points at the overflow place -e - 1
+-- an entry is a word in two's complement; a negative entry e points at the overflow place -e - 1
 abbrev pub entry_of : ℕ → Entry
 entry_of w = cond (ltb w (2 ^ 63)) (First w) (Overflow (2 ^ 64 - 1 - w))
 
