@@ -5,6 +5,7 @@ use Rattle.broadword.specs.Fields.{word}
 use Rattle.darray_positions.specs.Scan.{Position, Ahead, Inside, Hits}
 use Rattle.darray_positions.specs.declared.scan.Cursor.{Cursor}
 use Rattle.darray_positions.specs.declared.scan.Hit.{Hit}
+use Rattle.darray.specs.declared.pending.Pending.{Pending}
 use Rattle.darray.specs.declared.inner.Sizes.{Sizes}
 
 -- the positions of a block that its words need: all of a wide one, else every 32nd
@@ -77,6 +78,10 @@ lanes_at s j = s.entries + 8 * j
 
 abbrev pub over_at : Sizes → ℕ → ℕ
 over_at s o = s.entries + (s.lanes + 3) / 4 + o
+
+-- the pending positions, none of them pending any more
+abbrev pub emptied : Pending → Pending
+emptied p = record { positions = p.positions; count = 0 }
 
 -- r says whether A holds
 pub record Decides (r : Bool) (A : Type 0) : Type 0 where

@@ -17,7 +17,7 @@ ghost use Rattle.darray.specs.Queries.{of_measured, measure_of, build_index_of, 
 ghost use Rattle.darray_positions.specs.Scan.{FullBlocks};
 ghost use Rattle.darray.specs.Sizes.{sizes_by, Sized, Writable, Comparable};
 
-use crate::pending::{compare, flush, load};
+use crate::pending::Pending;
 use bit_words::{checked, words_for};
 use darray_positions::scan::{
     BLOCK_LEN, Cursor, Full, SUBBLOCK_LEN, block_size, count_positions, ends, full_blocks, spilled,
@@ -130,12 +130,12 @@ fn write(words: &[u64], len: usize, over_one: bool, s: Sizes, out: &mut [u64]) -
     ensures { (out.new ≡ index_words (positions over_one words.now len) ++ drop (length (index_words (positions over_one words.now len))) out.old) × (result ≡ before (positions over_one words.now len) (blocks (positions over_one words.now len))) }
 {
     let n = s.positions;
-    let mut a = [0u64; 1024];
+    let mut p = Pending::empty();
     let mut from = Cursor { word: 0, before: 0 };
     let mut over: usize = 0;
     for j in 0..s.entries {
-        from = load(&mut a, words, over_one, n, j, from);
-        over += flush(&a, block_size(n, j), &mut *out, s, j, over);
+        from = p.load(words, over_one, n, j, from);
+        over += p.flush(&mut *out, s, j, over);
     }
     over
 }
@@ -182,12 +182,12 @@ fn matches(words: &[u64], len: usize, over_one: bool, s: Sizes, index: &[u64]) -
     ensures { Decides result (index.now ≡ index_words (positions over_one words.now len)) }
 {
     let n = s.positions;
-    let mut a = [0u64; 1024];
+    let mut p = Pending::empty();
     let mut at = Cursor { word: 0, before: 0 };
     let mut over: usize = 0;
     for j in 0..s.entries {
-        at = load(&mut a, words, over_one, n, j, at);
-        let Some(more) = compare(&a, block_size(n, j), index, s, j, over) else {
+        at = p.load(words, over_one, n, j, at);
+        let Some(more) = p.compare(index, s, j, over) else {
             return false;
         };
         over += more;

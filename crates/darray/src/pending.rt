@@ -1,10 +1,10 @@
 // The pending positions of a block: those that its words need are stored, and a flush writes them to the index.
-ghost use Rattle.std.specs.Prelude.{◌≡◌, true, false, cond, ℕ, ◌+◌, ◌-◌, ◌*◌, ◌/◌, ◌^◌, ◌≤◌, ◌<◌, min, length};
+ghost use Rattle.std.specs.Prelude.{◌≡◌, true, false, cond, ℕ, ◌+◌, ◌-◌, ◌*◌, ◌/◌, ◌^◌, ◌≤◌, ◌<◌, min, length, replicate};
 ghost use Rattle.broadword.specs.Bits.{bit};
 ghost use Rattle.broadword.specs.Places.{select};
 ghost use Rattle.bit_words.specs.Vector.{bit_over};
 ghost use Rattle.darray_positions.specs.Scan.{Position, Ahead, Inside, last_in_block};
-ghost use Rattle.darray.specs.Pending.{Sampled, Loadable, Loaded, LanesRise, block_wide, block_spill, block_lane, block_lane_word, put, flushed, Flushable, lanes_at, over_at, Decides, Reads, Matches, Comparing, Compares};
+ghost use Rattle.darray.specs.Pending.{Sampled, Loadable, Loaded, LanesRise, block_wide, block_spill, block_lane, block_lane_word, put, flushed, Flushable, lanes_at, over_at, emptied, Decides, Reads, Matches, Comparing, Compares};
 
 use crate::inner::Sizes;
 use bit_words::{WORD_LEN, word_over};
@@ -15,6 +15,13 @@ use darray_positions::scan::{
 
 // Positions to a word of distances.
 const LANES_LEN: usize = 4 * SUBBLOCK_LEN;
+
+// The pending positions, up to 1,024, and how many they are: they travel as one value (document 01).
+#[derive(Drop)]
+pub struct Pending {
+    pub positions: [u64; 1024],
+    pub count: usize,
+}
 
 // The word without its lowest one.
 fn without_lowest(w: u64) -> u64
@@ -113,39 +120,6 @@ fn load_from(
     load_near(a, words, over_one, h, k, size)
 }
 
-// The same for the block with the number `block` of n positions.
-pub fn load(
-    a: &mut [u64; 1024],
-    words: &[u64],
-    over_one: bool,
-    n: usize,
-    block: usize,
-    from: Cursor,
-) -> Cursor
-    requires { (length a.old ≡ 1024) × Ahead (bit_over over_one words.now) from (1024 * block) × Inside (bit_over over_one words.now) (length words.now) (last_in_block n block) × (1024 * block < n) }
-    ensures { Loaded (bit_over over_one words.now) (1024 * block) (min 1024 (n - 1024 * block)) a.new result }
-{
-    let k = BLOCK_LEN * block;
-    let h = find_near(words, over_one, from, k);
-    load_from(a, words, over_one, h, k, block_size(n, block))
-}
-
-// Whether the block overflows.
-fn overflows(a: &[u64; 1024], n: usize) -> bool
-    requires { (0 < n) × (n ≤ 1024) × LanesRise a.now n }
-    ensures { result ≡ block_wide a.now n }
-{
-    is_wide(a[0], a[n - 1])
-}
-
-// How many of its positions go to the overflow.
-pub fn spill(a: &[u64; 1024], n: usize) -> usize
-    requires { (0 < n) × (n ≤ 1024) × LanesRise a.now n }
-    ensures { result ≡ block_spill a.now n }
-{
-    if overflows(a, n) { n } else { 0 }
-}
-
 // The first position, or -(over + 1) in two's complement.
 fn entry(first: u64, wide: bool, over: usize) -> u64
     ensures { result ≡ cond wide (2 ^ 64 - (over + 1)) first }
@@ -153,116 +127,143 @@ fn entry(first: u64, wide: bool, over: usize) -> u64
     if wide { u64::MAX - over as u64 } else { first }
 }
 
-// The distance of the position 32 i from the first: 65,535 in a block that overflows, and 0 where there is no such position.
-fn lane(a: &[u64; 1024], n: usize, wide: bool, i: usize) -> u64
-    requires { (n ≤ 1024) × (i < 64) × LanesRise a.now n × (wide ≡ block_wide a.now n) }
-    ensures { (result ≡ block_lane a.now n i) × (result < 65536) }
-{
-    let k = SUBBLOCK_LEN * i;
-    if n <= k {
-        return 0;
-    }
-    if wide {
-        return 65535;
-    }
-    a[k] - a[0]
-}
-
-// Four of them, from the low end.
-fn lane_word(a: &[u64; 1024], n: usize, wide: bool, t: usize) -> u64
-    requires { (n ≤ 1024) × (t < 8) × LanesRise a.now n × (wide ≡ block_wide a.now n) }
-    ensures { result ≡ block_lane_word a.now n t }
-{
-    let i = 4 * t;
-    let low = lane(a, n, wide, i) + lane(a, n, wide, i + 1) * 0x1_0000;
-    let high = lane(a, n, wide, i + 2) + lane(a, n, wide, i + 3) * 0x1_0000;
-    low + high * 0x1_0000_0000
-}
-
-// Writes the distances.
-fn put_lanes(a: &[u64; 1024], n: usize, wide: bool, out: &mut [u64], at: usize)
-    requires { (n ≤ 1024) × LanesRise a.now n × (wide ≡ block_wide a.now n) × (at + (n + 127) / 128 ≤ length out.old) }
-    ensures { out.new ≡ put out.old at (block_lane_word a.now n) ((n + 127) / 128) }
-{
-    for t in 0..n.div_ceil(LANES_LEN) {
-        out[at + t] = lane_word(a, n, wide, t);
-    }
-}
-
-// Writes the block to the index whose sizes are s: its entry, its distances, and where it overflows its positions, with `over` overflow positions
-// before them. How many of its positions went to the overflow comes back.
-pub fn flush(
-    a: &[u64; 1024],
-    n: usize,
-    out: &mut [u64],
-    s: Sizes,
-    block: usize,
-    over: usize,
-) -> usize
-    requires { (s.lanes + 3 < 2 ^ 64) × Flushable a.now n block (lanes_at s block) over (over_at s over) (length out.old) }
-    ensures { (result ≡ block_spill a.now n) × (out.new ≡ flushed a.now n block (lanes_at s block) over (over_at s over) out.old) }
-{
-    let wide = overflows(a, n);
-    out[block] = entry(a[0], wide, over);
-    put_lanes(a, n, wide, &mut *out, s.entries + 8 * block);
-    let more = spill(a, n);
-    let at = s.entries + s.lanes.div_ceil(4) + over;
-    out[at..at + more].copy_from_slice(&a[..more]);
-    more
-}
-
-// Whether the words at the place `at` are the distances.
-fn lanes_match(a: &[u64; 1024], n: usize, wide: bool, index: &[u64], at: usize) -> bool
-    requires { (n ≤ 1024) × LanesRise a.now n × (wide ≡ block_wide a.now n) × (at + (n + 127) / 128 ≤ length index.now) }
-    ensures { Decides result (Reads index.now at (block_lane_word a.now n) ((n + 127) / 128)) }
-{
-    for t in 0..n.div_ceil(LANES_LEN) {
-        if index[at + t] != lane_word(a, n, wide, t) {
-            return false;
+impl Pending {
+    // None is pending.
+    pub fn empty() -> Pending
+        ensures { (result.positions ≡ replicate 1024 0) × (result.count ≡ 0) }
+    {
+        Pending {
+            positions: [0u64; 1024],
+            count: 0,
         }
     }
-    true
-}
 
-// Whether the index has the words that a flush of the block would write.
-fn block_matches(
-    a: &[u64; 1024],
-    n: usize,
-    index: &[u64],
-    s: Sizes,
-    block: usize,
-    over: usize,
-) -> bool
-    requires { (s.lanes + 3 < 2 ^ 64) × Flushable a.now n block (lanes_at s block) over (over_at s over) (length index.now) }
-    ensures { Decides result (Matches a.now n block (lanes_at s block) over (over_at s over) index.now) }
-{
-    let wide = overflows(a, n);
-    if index[block] != entry(a[0], wide, over) {
-        return false;
+    // The block with the number `block` of n positions, loaded so; a cursor at the word of its last comes back.
+    pub fn load(
+        &mut self,
+        words: &[u64],
+        over_one: bool,
+        n: usize,
+        block: usize,
+        from: Cursor,
+    ) -> Cursor
+        requires { (length self.old.positions ≡ 1024) × Ahead (bit_over over_one words.now) from (1024 * block) × Inside (bit_over over_one words.now) (length words.now) (last_in_block n block) × (1024 * block < n) }
+        ensures { Loaded (bit_over over_one words.now) (1024 * block) (min 1024 (n - 1024 * block)) self.new.positions result × (self.new.count ≡ min 1024 (n - 1024 * block)) }
+    {
+        let k = BLOCK_LEN * block;
+        let h = find_near(words, over_one, from, k);
+        let size = block_size(n, block);
+        self.count = size;
+        load_from(&mut self.positions, words, over_one, h, k, size)
     }
-    if !lanes_match(a, n, wide, index, s.entries + 8 * block) {
-        return false;
-    }
-    let more = spill(a, n);
-    let at = s.entries + s.lanes.div_ceil(4) + over;
-    index[at..at + more] == a[..more]
-}
 
-// Compares the words of a block, with `over` overflow positions before it, with those of the index.
-pub fn compare(
-    a: &[u64; 1024],
-    n: usize,
-    index: &[u64],
-    s: Sizes,
-    block: usize,
-    over: usize,
-) -> Option<usize>
-    requires { Comparing a.now n s block over (length index.now) }
-    ensures { Compares a.now n s block over index.now result }
-{
-    let more = spill(a, n);
-    if s.overflow - over < more {
-        return None;
+    // Whether the block overflows.
+    fn overflows(&self) -> bool
+        requires { (0 < self.now.count) × (self.now.count ≤ 1024) × LanesRise self.now.positions self.now.count }
+        ensures { result ≡ block_wide self.now.positions self.now.count }
+    {
+        is_wide(self.positions[0], self.positions[self.count - 1])
     }
-    block_matches(a, n, index, s, block, over).then_some(more)
+
+    // How many of its positions go to the overflow.
+    pub fn spill(&self) -> usize
+        requires { (0 < self.now.count) × (self.now.count ≤ 1024) × LanesRise self.now.positions self.now.count }
+        ensures { result ≡ block_spill self.now.positions self.now.count }
+    {
+        if self.overflows() { self.count } else { 0 }
+    }
+
+    // The distance of the position 32 i from the first: 65,535 in a block that overflows, and 0 where there is no such position.
+    fn lane(&self, wide: bool, i: usize) -> u64
+        requires { (self.now.count ≤ 1024) × (i < 64) × LanesRise self.now.positions self.now.count × (wide ≡ block_wide self.now.positions self.now.count) }
+        ensures { (result ≡ block_lane self.now.positions self.now.count i) × (result < 65536) }
+    {
+        let k = SUBBLOCK_LEN * i;
+        if self.count <= k {
+            return 0;
+        }
+        if wide {
+            return 65535;
+        }
+        self.positions[k] - self.positions[0]
+    }
+
+    // Four of them, from the low end.
+    fn lane_word(&self, wide: bool, t: usize) -> u64
+        requires { (self.now.count ≤ 1024) × (t < 8) × LanesRise self.now.positions self.now.count × (wide ≡ block_wide self.now.positions self.now.count) }
+        ensures { result ≡ block_lane_word self.now.positions self.now.count t }
+    {
+        let i = 4 * t;
+        let low = self.lane(wide, i) + self.lane(wide, i + 1) * 0x1_0000;
+        let high = self.lane(wide, i + 2) + self.lane(wide, i + 3) * 0x1_0000;
+        low + high * 0x1_0000_0000
+    }
+
+    // Writes the distances.
+    fn put_lanes(&self, wide: bool, out: &mut [u64], at: usize)
+        requires { (self.now.count ≤ 1024) × LanesRise self.now.positions self.now.count × (wide ≡ block_wide self.now.positions self.now.count) × (at + (self.now.count + 127) / 128 ≤ length out.old) }
+        ensures { out.new ≡ put out.old at (block_lane_word self.now.positions self.now.count) ((self.now.count + 127) / 128) }
+    {
+        for t in 0..self.count.div_ceil(LANES_LEN) {
+            out[at + t] = self.lane_word(wide, t);
+        }
+    }
+
+    // Writes the block to the index whose sizes are s: its entry, its distances, and where it overflows its positions, with `over` overflow positions
+    // before them, and empties it. How many of its positions went to the overflow comes back.
+    pub fn flush(&mut self, out: &mut [u64], s: Sizes, block: usize, over: usize) -> usize
+        requires { (s.lanes + 3 < 2 ^ 64) × Flushable self.old.positions self.old.count block (lanes_at s block) over (over_at s over) (length out.old) }
+        ensures { (result ≡ block_spill self.old.positions self.old.count) × (self.new ≡ emptied self.old) × (out.new ≡ flushed self.old.positions self.old.count block (lanes_at s block) over (over_at s over) out.old) }
+    {
+        let wide = self.overflows();
+        out[block] = entry(self.positions[0], wide, over);
+        self.put_lanes(wide, &mut *out, s.entries + 8 * block);
+        let more = self.spill();
+        let at = s.entries + s.lanes.div_ceil(4) + over;
+        out[at..at + more].copy_from_slice(&self.positions[..more]);
+        self.count = 0;
+        more
+    }
+
+    // Whether the words at the place `at` are the distances.
+    fn lanes_match(&self, wide: bool, index: &[u64], at: usize) -> bool
+        requires { (self.now.count ≤ 1024) × LanesRise self.now.positions self.now.count × (wide ≡ block_wide self.now.positions self.now.count) × (at + (self.now.count + 127) / 128 ≤ length index.now) }
+        ensures { Decides result (Reads index.now at (block_lane_word self.now.positions self.now.count) ((self.now.count + 127) / 128)) }
+    {
+        for t in 0..self.count.div_ceil(LANES_LEN) {
+            if index[at + t] != self.lane_word(wide, t) {
+                return false;
+            }
+        }
+        true
+    }
+
+    // Whether the index has the words that a flush of the block would write.
+    fn block_matches(&self, index: &[u64], s: Sizes, block: usize, over: usize) -> bool
+        requires { (s.lanes + 3 < 2 ^ 64) × Flushable self.now.positions self.now.count block (lanes_at s block) over (over_at s over) (length index.now) }
+        ensures { Decides result (Matches self.now.positions self.now.count block (lanes_at s block) over (over_at s over) index.now) }
+    {
+        let wide = self.overflows();
+        if index[block] != entry(self.positions[0], wide, over) {
+            return false;
+        }
+        if !self.lanes_match(wide, index, s.entries + 8 * block) {
+            return false;
+        }
+        let more = self.spill();
+        let at = s.entries + s.lanes.div_ceil(4) + over;
+        index[at..at + more] == self.positions[..more]
+    }
+
+    // Compares the words of a block, with `over` overflow positions before it, with those of the index.
+    pub fn compare(&self, index: &[u64], s: Sizes, block: usize, over: usize) -> Option<usize>
+        requires { Comparing self.now.positions self.now.count s block over (length index.now) }
+        ensures { Compares self.now.positions self.now.count s block over index.now result }
+    {
+        let more = self.spill();
+        if s.overflow - over < more {
+            return None;
+        }
+        self.block_matches(index, s, block, over).then_some(more)
+    }
 }

@@ -5,4 +5,4 @@ use Rattle.darray.proofs.Writing.{Writing}
 use Rattle.darray.proofs.inner.write.Given as goal
 
 abbrev pub invariant-loop-j : goal.invariant-loop-j
-invariant-loop-j l = Writing l.over_one l.words l.len l.fn.out l.out l.a l.from l.over l.j
+invariant-loop-j l = Writing l.over_one l.words l.len l.fn.out l.out l.p.positions l.from l.over l.j

@@ -1,7 +1,7 @@
--- `darray::pending::overflows` meets its contract.
+-- `darray::pending::Pending::overflows` meets its contract.
 -- Assumes nothing.
 use Rattle.darray.specs.Pending.{block_wide}
-use Rattle.darray.proofs.pending.overflows.Goals as goal
+use Rattle.darray.proofs.pending.Pending.overflows.Goals as goal
 
 pub returns : goal.returns
 unfolding block_wide
