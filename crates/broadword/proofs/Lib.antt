@@ -8,3 +8,4 @@ pub mod Spread
 pub mod Table
 pub mod Threshold
 pub mod Truth
+pub mod Product

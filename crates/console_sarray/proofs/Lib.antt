@@ -1,1 +1,2 @@
--- No law is needed beside the answers.
+-- Laws of the definitions of `specs/`.
+pub mod Telling

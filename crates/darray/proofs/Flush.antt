@@ -274,6 +274,9 @@ module _ (a : List ℕ) (n j lanes_at o over_at : ℕ) (l l₁ l₂ : List ℕ) 
       ∙ ap (λ (x : ℕ). put (put (set l j x) lanes_at (block_lane_word a n) ((n + 127) / 128)) over_at (λ i. get_or a i 0) (block_spill a n))
       (q ∙ ap (λ (b : Bool). cond b (2 ^ 64 - (o + 1)) (get_or a 0 0)) p)
 
+  pub flush_length : l₂ ≡ put l₁ over_at (λ i. get_or a i 0) s → length l₂ ≡ length l
+  flush_length e = ap length e ∙ length-put l₁ over_at (λ i. get_or a i 0) s ∙ lanes-length
+
 pub entry_is : (a : List ℕ) (n o v : ℕ) (w : Bool) → w ≡ block_wide a n → v ≡ cond w (2 ^ 64 - (o + 1)) (get_or a 0 0) → v ≡ block_entry a n o
 unfolding block_entry
 entry_is a n o v w p q = q ∙ ap (λ (b : Bool). cond b (2 ^ 64 - (o + 1)) (get_or a 0 0)) p

@@ -208,6 +208,9 @@ module _ (i : List ℕ) (ok : accepted i ≡ true) (p : Parts) (ep : p ≡ parts
   pub few : b ≤ 2 ^ 32
   few = let f = images.is_fit i ok in omega (arith, in_list, f.few, f.most)
 
+  pub range_ends : ScanStart (times i) a b v a
+  range_ends = record { from = le_refl a; upto = g.some; less = λ j h m. omega arith }
+
   -- the value with the number k is below v, and so are those before
   pub goes_right : (k r : ℕ) → a ≤ k → k < b → get_or (times i) k 0 < v → ScanStart (times i) k b v r → ScanStart (times i) a b v r
   goes_right k r h kb l s = record { from = omega (arith, s.from); upto = s.upto; less = λ j m n. go j m (dec_lt j k) }
