@@ -1,5 +1,5 @@
 -- The call case by case. Assumes nothing.
-use Rattle.std.specs.Prelude.{Ok, Err, Result}
+use Rattle.std.specs.Prelude.{Ok, Result}
 use mathlib.Core.Path.{◌≡◌, sym, ap, ◌∙◌, subst}
 use mathlib.Core.List.{List, ◌++◌}
 use mathlib.Core.Bool.{Bool, true, false}
@@ -7,7 +7,6 @@ use Prim.Native.Nat.{ℕ, ◌≤◌, ◌<◌}
 use borrow.Author.Tests.{lt-ltb, le-ltb, eq-eqb, ne_eqb}
 use lib.ListN.{length, drop}
 use Rattle.errors.specs.Answer.{Answer, value, done, refused, Outcome, leaves, passing}
-use Rattle.errors.specs.Refusal.{number_of}
 use Rattle.errors.specs.declared.Refusal.{Refusal}
 use Rattle.bit_words.specs.Vector.{invalid}
 use Rattle.elias_fano_from_bits.specs.Building.{Countable, Ready, Tests}
@@ -34,17 +33,11 @@ module _ (ws : List ℕ) (len : ℕ) (c : Bool) (k : ℕ) where
     pub passed : (j : Job) → r ≡ Ok j → Ready ws len c k j
     passed j e = subst (Tests ws len c k) e t
 
-    pub not_passed : (x : Refusal) → r ≡ Err x → ones_test ws len c k ≡ refused (number_of x)
-    not_passed x e = subst (Tests ws len c k) e t
-
 -- ---- the calls
 
 module _ (ws : List ℕ) (len : ℕ) (c : Bool) (w : List ℕ) where
   abbrev of_test : Answer → Outcome
   of_test a = passing a w (bits_written ws len c w)
-
-  pub ones_refused : (k : ℕ) → ones_test ws len c (length w) ≡ refused k → leaves (refused k) w ≡ of_test (ones_test ws len c (length w))
-  ones_refused k e = sym (ap of_test e)
 
   pub ones_written : ones_test ws len c (length w) ≡ done → (k : ℕ) → k ≡ length (bits_image ws len c) → (x : List ℕ) → x ≡ bits_image ws len c ++ drop (length (bits_image ws len c)) w → leaves (value k) x ≡ of_test (ones_test ws len c (length w))
   ones_written e k ek x ex = (λ i. leaves (value (ek i)) (ex i)) ∙ sym (ap of_test e)

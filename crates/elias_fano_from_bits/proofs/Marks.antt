@@ -3,8 +3,8 @@ use Rattle.std.specs.Prelude.{Some}
 use mathlib.Core.Path.{◌≡◌, refl, sym, ap, ap₂, ◌∙◌, subst, subst⁻¹}
 use mathlib.Core.List.{List}
 use mathlib.Core.Bool.{Bool, true, false}
-use Prim.Native.Nat.{ℕ, ◌+◌, ◌-◌, ◌*◌, ◌/◌, ◌%◌, ◌^◌, ◌≤◌, ◌<◌, min}
-use native.Mathlib.Nat.{le_refl, le_trans, le_of_lt, mul-le-mul, div-le_self}
+use Prim.Native.Nat.{ℕ, ◌+◌, ◌-◌, ◌*◌, ◌/◌, ◌^◌, ◌≤◌, ◌<◌, min}
+use native.Mathlib.Nat.{le_refl, le_trans, le_of_lt, mul-le-mul}
 use native.Mathlib.Omega.{arith}
 use lib.ListN.{length, get_or}
 use Rattle.broadword.specs.Bits.{count}
@@ -15,7 +15,6 @@ use Rattle.bit_words.specs.Inner.{Findable}
 use Rattle.bit_words.specs.Vector.{words_for, bit_over}
 use Rattle.bit_words.proofs.Valid.{valid}
 use Rattle.darray_positions.proofs.Positions as position
-use Rattle.elias_fano_queries.proofs.Upper as upper
 use Rattle.elias_fano_from_bits.specs.Building.{low_of, Marked, Upto, Seekable, Seen}
 use Rattle.elias_fano_from_bits.specs.FromBits.{ones_of}
 use Rattle.elias_fano_from_bits.specs.declared.measure.Mark.{Mark}
@@ -23,21 +22,6 @@ use Rattle.elias_fano_from_bits.proofs.Highs as highs
 use Rattle.elias_fano_from_bits.proofs.Ones as ones
 
 -- ---- where a bucket ends
-
-pub bucket_within : (len l k : ℕ) → len < 2 ^ 64 → k < len / 2 ^ l → ((k + 1) * 2 ^ l) % 2 ^ 64 ≡ min ((k + 1) * 2 ^ l) len
-bucket_within len l k s h = plain ((k + 1) * 2 ^ l) (upper.time_past l len k h)
-  where
-    plain : (x : ℕ) → x ≤ len → x % 2 ^ 64 ≡ min x len
-    plain x g = omega arith
-
-pub bucket_past : (len l k : ℕ) → len / 2 ^ l ≤ k → len ≡ min ((k + 1) * 2 ^ l) len
-bucket_past len l k h = plain ((k + 1) * 2 ^ l) (upper.time_lt l len k h)
-  where
-    plain : (x : ℕ) → len < x → len ≡ min x len
-    plain x g = omega arith
-
-pub quotient_le : (len l : ℕ) → len / 2 ^ l ≤ len
-quotient_le len l = div-le_self len (2 ^ l)
 
 -- ---- a mark moved on
 

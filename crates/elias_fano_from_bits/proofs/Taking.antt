@@ -2,7 +2,7 @@
 use Rattle.errors.specs.declared.Refusal.{Refusal}
 use Rattle.std.specs.Prelude.{Ok, Err, Some, None, Result, Option, unwrap_or}
 use Rattle.std.specs.Result.{result_unwrap_or}
-use mathlib.Core.Path.{◌≡◌, refl, sym, ap, ◌∙◌, subst⁻¹}
+use mathlib.Core.Path.{◌≡◌, refl, ap, ◌∙◌, subst⁻¹}
 use mathlib.Core.List.{List}
 use mathlib.Core.Bool.{true}
 use Prim.Native.Nat.{ℕ, suc, ◌+◌, ◌*◌, ◌/◌, ◌%◌, ◌^◌, ◌<◌}
@@ -71,9 +71,9 @@ module _ (ws : List ℕ) (len i : ℕ) (w : Unary) (a : OnesTaken ws len i w) (h
     pub one_taken : NextTaken ws len i (record { place = unwrap_or (result_unwrap_or r.place None) 0; rest = r.walk })
     unfolding place_of
     one_taken = record {
-        place = place_is r.place x (ap (λ (z : Step). z.answer) is_step);
-        rest = subst⁻¹ (OnesTaken ws len (suc i)) (ap (λ (z : Step). z.walk) is_step) (record {
-          over = record { ok = a.over.ok; behind = omega arith; near = le_refl (x + 1); rest = refl };
-          before = count_next;
-        });
-      }
+      place = place_is r.place x (ap (λ (z : Step). z.answer) is_step);
+      rest = subst⁻¹ (OnesTaken ws len (suc i)) (ap (λ (z : Step). z.walk) is_step) (record {
+        over = record { ok = a.over.ok; behind = omega arith; near = le_refl (x + 1); rest = refl };
+        before = count_next;
+      });
+    }

@@ -64,7 +64,7 @@ fn has_room(words: &[u64], len: usize, n: usize, s: Sizes, rank: bool, room: usi
     measured_len(words, len, n, s, rank) <= room
 }
 
-// The next one, which there is.
+// The next one, which there is: neither 0 is ever taken.
 fn take_one(words: &[u64], len: usize, i: usize, w: Unary) -> One
     requires { OnesTaken words.now len i w × (i < length (ones_of words.now len)) }
     ensures { NextTaken words.now len i result }
@@ -83,8 +83,7 @@ fn file_all(words: &[u64], len: usize, n: usize, s: Sizes, buffer: &mut [u64]) -
 {
     let mut w = walk_from(words, 0);
     let mut last: u64 = 0;
-    let mut i = 0;
-    while i < n {
+    for i in 0..n {
         let b = Builder {
             universe: len as u64,
             num_vals: n as u64,
@@ -95,7 +94,6 @@ fn file_all(words: &[u64], len: usize, n: usize, s: Sizes, buffer: &mut [u64]) -
         w = one.rest;
         last = one.place as u64;
         file(b, last, s, &mut *buffer);
-        i += 1;
     }
     last
 }

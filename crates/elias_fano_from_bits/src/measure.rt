@@ -9,8 +9,7 @@ ghost use Rattle.bit_words.specs.Vector.{words_for, bit_over};
 ghost use Rattle.darray_positions.specs.Index.{blocks, before};
 ghost use Rattle.elias_fano_from_bits.specs.Building.{Countable, low_of, positions_of, Marked, Seekable, Seen};
 
-use bit_words::{WORD_LEN, find_within, words_for};
-use broadword::popcount;
+use bit_words::{WORD_LEN, count_words, find_within, words_for};
 use darray_positions::scan::{BLOCK_LEN, block_size, spilled, tail_positions};
 
 // A place of the source, and how many ones stand before it.
@@ -27,27 +26,13 @@ pub struct HighPlace {
     pub mark: Mark,
 }
 
-// The ones of the words from the word `first` on, before the word `end`.
-fn count_words(words: &[u64], first: usize, end: usize) -> usize
-    requires { (first ≤ end) × (end ≤ length words.now) × (end * 64 < 2 ^ 64) }
-    ensures { count (bit_over true words.now) (first * 64) + result ≡ count (bit_over true words.now) (end * 64) }
-{
-    let mut n: usize = 0;
-    let mut i = first;
-    while i < end {
-        n += popcount(words[i]);
-        i += 1;
-    }
-    n
-}
-
 // The mark at the place `to`, from one that is not past it.
 fn mark_at(words: &[u64], len: usize, from: Mark, to: usize) -> Mark
     requires { Marked words.now len from × (words_for len ≤ length words.now) × (from.place ≤ to) × (to ≤ len) }
     ensures { Marked words.now len result × (result.place ≡ to) }
 {
     let before = from.ones - tail_positions(words, from.place, true);
-    let whole = count_words(words, from.place / WORD_LEN, to / WORD_LEN);
+    let whole = count_words(words, from.place / WORD_LEN, to / WORD_LEN, true);
     Mark {
         place: to,
         ones: before + whole + tail_positions(words, to, true),
@@ -87,7 +72,7 @@ fn high_zero(words: &[u64], len: usize, l: usize, k: usize, from: Mark) -> HighP
     }
 }
 
-// The position of the high bits with the number k.
+// The position of the high bits with the number k. A flag, no closure: the contracts tell by `over_one` which positions are meant.
 fn high_place(
     words: &[u64],
     len: usize,
@@ -110,20 +95,15 @@ pub fn overflow_of(words: &[u64], len: usize, l: usize, over_one: bool, n: usize
     requires { Countable words.now len × (l ≡ low_of words.now len) × (n ≡ length (positions_of words.now len over_one)) }
     ensures { result ≡ before (positions_of words.now len over_one) (blocks (positions_of words.now len over_one)) }
 {
-    let blocks = (n + (BLOCK_LEN - 1)) / BLOCK_LEN;
     let mut overflow: usize = 0;
     let mut from = Mark { place: 0, ones: 0 };
-    let mut j: usize = 0;
-    while j < blocks {
+    for j in 0..n.div_ceil(BLOCK_LEN) {
         let k = BLOCK_LEN * j;
         let size = block_size(n, j);
         let first = high_place(words, len, l, over_one, k, from);
-        let seen = first.mark;
-        let last = high_place(words, len, l, over_one, k + (size - 1), seen);
+        let last = high_place(words, len, l, over_one, k + (size - 1), first.mark);
         overflow += spilled(first.at, last.at, size);
-        let mark = last.mark;
-        from = mark;
-        j += 1;
+        from = last.mark;
     }
     overflow
 }

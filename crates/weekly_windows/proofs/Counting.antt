@@ -101,13 +101,7 @@ module _ (i : List ℕ) (ok : accepted i ≡ true) (p : Parts) (ep : p ≡ parts
   many : p.num_pushed ≡ length (times i)
   many = selecting.pushed_is i ok p ep
 
-  pub few_times : p.num_pushed ≤ 16777216
-  few_times = let f = images.is_fit i ok in omega (arith, many, f.few, f.most)
-
   module _ (ws : List ℕ) (e : ℕ) where
-    pub counts_begin : (w : Walk) → WalkOver i p w → CountsOn i p ws e w.number w 0
-    counts_begin w h = record { walking = h; few = zero-le; same = omega arith }
-
     module _ (k : ℕ) (w : Walk) (count : ℕ) (s : CountsOn i p ws e k w count) where
       -- no time is left
       none_left : count_in ws 0 e (drop w.number (times i)) ≡ 0 → count ≡ count_in ws 0 e (drop k (times i))

@@ -2,9 +2,9 @@
 use mathlib.Core.Path.{◌≡◌, sym, ap, ◌∙◌, subst, subst₂}
 use mathlib.Core.List.{List, [], ◌∷◌}
 use mathlib.Core.Bool.{Bool, true, false, ◌&&◌, ◌||◌, and-false}
-use Prim.Native.Nat.{ℕ, zero, suc, ◌+◌, ◌*◌, ◌/◌, ◌%◌, ◌≤◌, ◌<◌, suc-le-suc, zero-le}
-use native.Mathlib.Nat.{le_trans, lt_of_lt_of_le, lt_of_not-le}
-use native.Mathlib.Decide.{dec_le, ℕ_discrete}
+use Prim.Native.Nat.{ℕ, zero, suc, ◌+◌, ◌*◌, ◌%◌, ◌≤◌, ◌<◌, suc-le-suc, zero-le}
+use native.Mathlib.Nat.{le_trans, lt_of_lt_of_le}
+use native.Mathlib.Decide.{ℕ_discrete}
 use native.Mathlib.Omega.{arith}
 use borrow.Author.Tests.{lt-ltb, le-ltb, le-leb, lt-leb}
 use lib.Dec.{leb, ltb}
@@ -113,30 +113,3 @@ module _ (cuts : List ℕ) (n : ℕ) where
 
   pub all_started : (first : List ℕ) (k q : ℕ) → Started cuts n first k q → 148 ≤ q → PartStarts cuts n first
   all_started first k q s h p l = s.starts p (omega arith)
-
-  module _ (first : List ℕ) (o : Ordered cuts n) (s : PartStarts cuts n first) (r : ℕ) (h : r < week) where
-    part : r / 4096 < 148
-    part = omega arith
-
-    pub start_few : get_or first (r / 4096) 0 ≤ n
-    start_few = (s (r / 4096) part).0
-
-    -- the cut there is passed, if it is at or below r
-    pub start_passed : (k from : ℕ) → k ≡ get_or first (r / 4096) 0 → from ≡ flag (leb (get_or cuts k 0) r) → (k + from ≤ n) × AllUpto cuts r (k + from)
-    start_passed k from ek e = go (dec_le (get_or cuts k 0) r)
-      where
-        few : k ≤ n
-        few = subst (λ (x : ℕ). x ≤ n) (sym ek) start_few
-
-        all : AllUpto cuts r k
-        all = λ j l. le_trans ((s (r / 4096) part).1 j (subst (λ (x : ℕ). j < x) ek l)) (omega arith)
-
-        go : Dec (get_or cuts k 0 ≤ r) → (k + from ≤ n) × AllUpto cuts r (k + from)
-        go (yes g) =
-            let p = cut_passed cuts n r o h k few all g in
-            let f : from ≡ 1 = e ∙ ap flag (le-leb (get_or cuts k 0) r g) in
-            subst (λ (x : ℕ). (k + x ≤ n) × AllUpto cuts r (k + x)) (sym f) (omega (arith, p.0), p.1)
-        go (no g) =
-            let f : from ≡ 0 = e ∙ ap flag (lt-leb (get_or cuts k 0) r (lt_of_not-le g)) in
-            let z : k + from ≡ k = omega arith in
-            subst (λ (x : ℕ). (x ≤ n) × AllUpto cuts r x) (sym z) (few, all)

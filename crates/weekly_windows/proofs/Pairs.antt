@@ -2,11 +2,13 @@
 use mathlib.Core.Path.{◌≡◌, refl, sym, ap, ap₂, ◌∙◌}
 use mathlib.Core.List.{List, [], ◌∷◌, ◌++◌, append_assoc}
 use mathlib.Core.Bool.{Bool, true, false, ◌&&◌, and_assoc}
-use Prim.Native.Nat.{ℕ, zero, suc, ◌+◌, ◌-◌, ◌%◌, ◌≤◌, ◌<◌}
+use Prim.Native.Nat.{ℕ, zero, suc, ◌+◌, ◌%◌, ◌≤◌, ◌<◌}
+use native.Mathlib.Nat.{lt_of_not-le}
+use native.Mathlib.Decide.{dec_lt}
 use native.Mathlib.Numerals.{add-one}
 use native.Mathlib.Omega.{arith}
 use borrow.Author.Tests.{ltb-true, leb-true, le-leb, lt-leb}
-use lib.Dec.{leb, ltb}
+use lib.Dec.{leb, ltb, eqb}
 use lib.ListN.{length, get_or, take, drop, set, drop_of_length-le}
 use lib.Seq.{drop-cons, sets-eq, take-append-add, length-take-le, drop-set-lt}
 use Rattle.broadword.proofs.Truth.{and_true, true_false}
@@ -56,13 +58,18 @@ module _ (ws : List ℕ) (i : ℕ) where
   pub form_right : i + 1 < length ws → (t : Bool) → t ≡ (ltb (get_or ws i 0) (get_or ws (i + 1) 0) && leb (get_or ws (i + 1) 0) week) → t ≡ true → in_form (drop i ws) ≡ in_form (drop (i + 2) ws)
   form_right h t e f = form_two h ∙ ap (λ (b : Bool). b && in_form (drop (i + 2) ws)) (sym e ∙ f)
 
-  pub form_one : i < length ws → length ws - i < 2 → in_form (drop i ws) ≡ false
+  -- at most one word is left: none, if there are pairs
+  pub form_left : length ws < i + 2 → i ≤ length ws → i % 2 ≡ 0 → eqb (length ws % 2) 0 ≡ in_form (drop i ws)
   unfolding in_form
-  form_one h k = ap in_form (drop-cons ws i 0 h ∙ ap (λ (r : List ℕ). get_or ws i 0 ∷ r) (drop_of_length-le ws {i = suc i} (omega arith)))
-
-  pub form_none : length ws ≤ i → in_form (drop i ws) ≡ true
-  unfolding in_form
-  form_none h = ap in_form (drop_of_length-le ws h)
+  form_left h k e = go (dec_lt i (length ws))
+    where
+      go : Dec (i < length ws) → eqb (length ws % 2) 0 ≡ in_form (drop i ws)
+      go (yes l) =
+          let m : length ws % 2 ≡ 1 = omega arith in
+          ap (λ (n : ℕ). eqb n 0) m ∙ sym (ap in_form (drop-cons ws i 0 l ∙ ap (λ (r : List ℕ). get_or ws i 0 ∷ r) (drop_of_length-le ws {i = suc i} (omega arith))))
+      go (no l) =
+          let m : length ws % 2 ≡ 0 = omega (arith, lt_of_not-le l) in
+          ap (λ (n : ℕ). eqb n 0) m ∙ sym (ap in_form (drop_of_length-le ws (omega (arith, lt_of_not-le l))))
 
 -- a window in form, and the others
 pub form_first : (a b : ℕ) (ws : List ℕ) → in_form (a ∷ b ∷ ws) ≡ true → (a < b) × (b ≤ week) × (in_form ws ≡ true)

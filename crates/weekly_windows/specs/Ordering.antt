@@ -1,15 +1,15 @@
 -- What the functions inside the crate demand and find: windows in order, as the seconds of the week where inside and outside change. Assumes nothing.
-use Rattle.std.specs.Prelude.{◌≡◌, List, [], ◌∷◌, true, cond, ℕ, suc, ◌*◌, ◌%◌, ◌≤◌, ◌<◌, min, max, ltb, length, get_or, take}
+use Rattle.std.specs.Prelude.{◌≡◌, List, [], ◌∷◌, true, cond, ℕ, suc, ◌*◌, ◌%◌, ◌≤◌, ◌<◌, min, max, ltb, length, get_or, take, Option, Some, None}
 use Rattle.elias_fano_words.specs.Times.{rising}
 use Rattle.weekly_windows.specs.Windows.{week}
 use Rattle.weekly_windows.specs.declared.order.Met.{Met}
 
 -- the window from x to y meets the next of some windows in order, from c to d: the first of the two is done with, or both are joined
-abbrev pub met : ℕ → ℕ → ℕ → ℕ → ℕ → Met
-met a b x y n = record { a = a; b = b; x = x; y = y; words = n }
+abbrev pub met : Option (ℕ × ℕ) → ℕ → ℕ → Met
+met done x y = record { done = done; x = x; y = y }
 
 unfoldable pub met_of : ℕ → ℕ → ℕ → ℕ → Met
-met_of x y c d = cond (ltb d x) (met c d x y 2) (cond (ltb y c) (met x y c d 2) (met x y (min x c) (max y d) 0))
+met_of x y c d = cond (ltb d x) (met (Some (c, d)) x y) (cond (ltb y c) (met (Some (x, y)) c d) (met None (min x c) (max y d)))
 
 -- the window from x to y among windows in order; windows that touch are joined
 unfoldable pub inserted : ℕ → ℕ → List ℕ → List ℕ

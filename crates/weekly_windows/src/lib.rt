@@ -9,39 +9,31 @@ ghost use Rattle.std.specs.Prelude.{◌≡◌, true, take as take_list, drop};
 ghost use Rattle.errors.specs.Answer.{of_result};
 ghost use Rattle.elias_fano.specs.Accept.{times};
 ghost use Rattle.elias_fano_walk.specs.Walking.{WalkOver};
-ghost use Rattle.weekly_windows.specs.Ordering.{Ordered, PartStarts};
 ghost use Rattle.weekly_windows.specs.Windows.{are_windows, count_in, count_answer, count_of};
 
 mod order;
 
-use crate::order::{are_windows, is_inside, order as put_in_order, part_starts};
+use crate::order::{Cuts, are_windows, order as put_in_order, part_starts};
 use elias_fano::opened::Image;
 use elias_fano_walk::search::begin_from;
 use elias_fano_walk::walk::{Walk, take};
 use errors::Refusal;
 
-// How many values from the walk's on and below e are in the windows.
-fn count_on(
-    image: &Image,
-    from: Walk,
-    e: u64,
-    cuts: &[u64; 65],
-    n: usize,
-    first: &[usize; 148],
-) -> usize
-    requires { WalkOver image.now.words.now image.now.parts from × Ordered cuts.now n × PartStarts cuts.now n first.now }
-    ensures { result ≡ count_in (take_list n cuts.now) 0 e (drop from.number (times image.now.words.now)) }
+// How many values from the walk's on and below e are in the windows. A loop, no chain: a step takes the image and the walk, and leaves a new walk.
+fn count_on(image: &Image, from: Walk, e: u64, cuts: &Cuts) -> usize
+    requires { WalkOver image.now.words.now image.now.parts from }
+    ensures { result ≡ count_in (take_list cuts.now.n cuts.now.at.now) 0 e (drop from.number (times image.now.words.now)) }
 {
     let end = image.parts.num_pushed as usize;
     let mut w = from;
     let mut count: usize = 0;
-    while w.number < end {
+    for _ in from.number..end {
         let t = take(image, w);
         let x = t.value;
         if e <= x {
             return count;
         }
-        count += is_inside(cuts, n, first, x);
+        count += cuts.is_inside(x);
         w = t.walk;
     }
     count
@@ -52,11 +44,16 @@ fn count_within(image: &Image, from: Walk, e: u64, windows: &[u64]) -> usize
     requires { WalkOver image.now.words.now image.now.parts from × (are_windows windows.now ≡ true) }
     ensures { result ≡ count_in windows.now 0 e (drop from.number (times image.now.words.now)) }
 {
-    let mut cuts = [0u64; 65];
-    let n = put_in_order(windows, &mut cuts);
+    let mut at = [0u64; 65];
+    let n = put_in_order(windows, &mut at);
     let mut first = [0usize; 148];
-    part_starts(&cuts, n, &mut first);
-    count_on(image, from, e, &cuts, n, &first)
+    part_starts(&at, n, &mut first);
+    let cuts = Cuts {
+        at: &at,
+        n,
+        first: &first,
+    };
+    count_on(image, from, e, &cuts)
 }
 
 // How many values from s on and below e are in the windows, of an opened image; 17 where the words are no windows.

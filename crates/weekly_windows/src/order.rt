@@ -21,14 +21,22 @@ const PART: u64 = 4096;
 
 const PARTS: usize = 148;
 
-// Inside the crate: what two windows that meet leave. The first of them, from a to b, is done with if `words` is 2; from x to y is what goes on.
+// Inside the crate: what two windows that meet leave. The first of them is done with, if they do not touch; from x to y is what goes on.
 #[derive(Clone, Copy)]
 pub struct Met {
-    pub a: u64,
-    pub b: u64,
+    pub done: Option<(u64, u64)>,
     pub x: u64,
     pub y: u64,
-    pub words: usize,
+}
+
+// The n cuts, and for each part of the week how many of them are at or below its first second.
+#[derive(Clone, Copy)]
+pub struct Cuts<'a> {
+    pub at: &'a [u64; 65],
+    pub n: usize,
+    pub first: &'a [usize; 148],
+    pub ghost ordered: { Ordered at.now n },
+    pub ghost starts: { PartStarts at.now n first.now },
 }
 
 // Whether a pair is a window: the first second below the second one, and that at most the end of the week.
@@ -41,21 +49,16 @@ fn is_window(a: u64, b: u64) -> bool
     false
 }
 
-// Whether the words are pairs, each a window.
+// Whether the words are pairs, each a window. Pairs by number: with `chunks_exact(2).all` the proof stayed open, as its clause tells chunks by place, not down the list.
 fn in_form(words: &[u64]) -> bool
     ensures { result ≡ in_form words.now }
 {
-    let mut i: usize = 0;
-    while i < words.len() {
-        if words.len() - i < 2 {
+    for k in 0..words.len() / 2 {
+        if !is_window(words[2 * k], words[2 * k + 1]) {
             return false;
         }
-        if !is_window(words[i], words[i + 1]) {
-            return false;
-        }
-        i += 2;
     }
-    true
+    words.len() % 2 == 0
 }
 
 // Whether the words are windows: 32 at most, two words each.
@@ -68,46 +71,28 @@ pub fn are_windows(words: &[u64]) -> bool
     in_form(words)
 }
 
-fn lesser(a: u64, b: u64) -> u64
-    ensures { result ≡ min a b }
-{
-    if a < b { a } else { b }
-}
-
-fn greater(a: u64, b: u64) -> u64
-    ensures { result ≡ max a b }
-{
-    if a < b { b } else { a }
-}
-
 // The window from x to y meets the next of some windows in order, from c to d.
 fn meet(x: u64, y: u64, c: u64, d: u64) -> Met
     ensures { result ≡ met_of x y c d }
 {
     if d < x {
         return Met {
-            a: c,
-            b: d,
+            done: Some((c, d)),
             x,
             y,
-            words: 2,
         };
     }
     if y < c {
         return Met {
-            a: x,
-            b: y,
+            done: Some((x, y)),
             x: c,
             y: d,
-            words: 2,
         };
     }
     Met {
-        a: x,
-        b: y,
-        x: lesser(x, c),
-        y: greater(y, d),
-        words: 0,
+        done: None,
+        x: x.min(c),
+        y: y.max(d),
     }
 }
 
@@ -119,15 +104,15 @@ fn insert(cuts: &mut [u64; 65], len: usize, a: u64, b: u64) -> usize
     let mut x = a;
     let mut y = b;
     let mut n: usize = 0;
-    let mut i: usize = 0;
-    while i < len {
-        let m = meet(x, y, cuts[i], cuts[i + 1]);
-        cuts[n] = m.a;
-        cuts[n + 1] = m.b;
-        n += m.words;
+    for k in 0..len / 2 {
+        let m = meet(x, y, cuts[2 * k], cuts[2 * k + 1]);
+        if let Some((first, last)) = m.done {
+            cuts[n] = first;
+            cuts[n + 1] = last;
+            n += 2;
+        }
         x = m.x;
         y = m.y;
-        i += 2;
     }
     cuts[n] = x;
     cuts[n + 1] = y;
@@ -140,16 +125,15 @@ pub fn order(windows: &[u64], cuts: &mut [u64; 65]) -> usize
     ensures { Ordered cuts.new result × (take result cuts.new ≡ joined [] windows.now) }
 {
     let mut n: usize = 0;
-    let mut i: usize = 0;
-    while i < windows.len() {
-        n = insert(cuts, n, windows[i], windows[i + 1]);
-        i += 2;
+    for k in 0..windows.len() / 2 {
+        n = insert(cuts, n, windows[2 * k], windows[2 * k + 1]);
     }
     cuts[n] = WEEK;
     n
 }
 
 // How many cuts are at or below the second r of the week; those before `from` are. The number of cuts, n, is for the proof alone: the end of the week ends the search.
+// A `while`, and no `for`: a range would test a bound besides.
 fn cuts_upto(cuts: &[u64; 65], n: usize, from: usize, r: u64) -> usize
     requires { Ordered cuts.now n × (r < 604800) × (from ≤ n) × AllUpto cuts.now r from }
     ensures { CutsUpto cuts.now n r result }
@@ -167,29 +151,21 @@ pub fn part_starts(cuts: &[u64; 65], n: usize, first: &mut [usize; 148])
     ensures { PartStarts cuts.now n first.new }
 {
     let mut k: usize = 0;
-    let mut q: usize = 0;
-    while q < PARTS {
+    for q in 0..PARTS {
         k = cuts_upto(cuts, n, k, q as u64 * PART);
         first[q] = k;
-        q += 1;
     }
 }
 
-// 1 if the cut is at or below r, else 0.
-fn passed(cut: u64, r: u64) -> usize
-    ensures { result ≡ flag (leb cut r) }
-{
-    if cut <= r { 1 } else { 0 }
-}
-
-// 1 if the time is in a window, else 0. The first cut after the part's start is passed without a branch, which would be guessed wrong half the time.
-pub fn is_inside(cuts: &[u64; 65], n: usize, first: &[usize; 148], t: u64) -> usize
-    requires { Ordered cuts.now n × PartStarts cuts.now n first.now }
-    ensures { result ≡ flag (in_some (take n cuts.now) (t % 604800)) }
-{
-    let r = t % WEEK;
-    let q = (r / PART) as usize;
-    let k = first[q];
-    let from = k + passed(cuts[k], r);
-    cuts_upto(cuts, n, from, r) % 2
+impl<'a> Cuts<'a> {
+    // 1 if the time is in a window, else 0. The first cut after the part's start is passed without a branch, which would be guessed wrong half the time.
+    pub fn is_inside(&self, t: u64) -> usize
+        ensures { result ≡ flag (in_some (take self.now.n self.now.at.now) (t % 604800)) }
+    {
+        let r = t % WEEK;
+        let q = (r / PART) as usize;
+        let k = self.first[q];
+        let from = k + usize::from(self.at[k] <= r);
+        cuts_upto(self.at, self.n, from, r) % 2
+    }
 }

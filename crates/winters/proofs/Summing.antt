@@ -2,9 +2,8 @@
 use mathlib.Core.Path.{◌≡◌, refl, sym, ap, ap₂, ◌∙◌, subst}
 use mathlib.Core.List.{List, [], ◌∷◌}
 use mathlib.Core.Bool.{true}
-use Prim.Native.Nat.{ℕ, zero, suc, ◌+◌, ◌-◌, ◌≤◌, ◌<◌, min}
+use Prim.Native.Nat.{ℕ, suc, ◌+◌, ◌-◌, ◌≤◌, ◌<◌, min}
 use native.Mathlib.Nat.{le_trans}
-use native.Mathlib.Numerals.{add-one}
 use native.Mathlib.Omega.{arith}
 use lib.ListN.{length, get_or, drop, length-drop, drop_of_length-le}
 use lib.Seq.{get_or-drop}
@@ -26,14 +25,6 @@ use Rattle.winters.proofs.Spans as spans
 pub nothing_told : summary 0 0 0 0 ≡ summary_of []
 unfolding summary_of gaps least
 nothing_told = refl
-
-module _ (first last gap : ℕ) where
-  pub alone : (n : ℕ) → n ≡ 0 → summary 1 first last 0 ≡ with_others first n last gap
-  alone n e = sym (ap (λ (m : ℕ). with_others first m last gap) e)
-
-  pub not_alone : (n : ℕ) → (n ≡ 0 → ⊥) → summary (n + 1) first last gap ≡ with_others first n last gap
-  not_alone zero h = absurd (h refl)
-  not_alone (suc n) h = ap (λ (m : ℕ). summary m first last gap) (add-one (suc n))
 
 -- a gap that begins with e, where the next time is below e
 told : (e first : ℕ) (S : List ℕ) → ((j : ℕ) → j < length S → get_or S j 0 < e) → with_others first (length S) (last_from first S) (least_from e (gaps_from first S)) ≡ summary_of (first ∷ S)
@@ -94,9 +85,6 @@ module _ (i : List ℕ) (ok : accepted i ≡ true) (p : Parts) (ep : p ≡ parts
       spans.span_next e k (times i) (omega (arith, many)) (subst (λ (y : ℕ). y < e) ex h) ∙ ap₂ (λ (y n : ℕ). y ∷ after i e n) (sym ex) (sym q)
 
   module _ (first e : ℕ) where
-    pub sums_begin : (w : Walk) → WalkOver i p w → NoneBelow first (drop w.number (times i)) → SumsOn i p first e w.number w first e
-    sums_begin w h n = record { walking = h; from = omega arith; few = omega arith; above_first = n; above_last = n; counts = omega arith; lasts = refl; gaps = refl }
-
     module _ (k : ℕ) (w : Walk) (last gap : ℕ) (g : SumsOn i p first e k w last gap) where
       pub sums_few : w.number - k ≤ 16777216
       sums_few = le_trans g.few few_times

@@ -2,25 +2,17 @@
 use mathlib.Core.Path.{◌≡◌, refl, sym, ap, ap₂, ◌∙◌}
 use mathlib.Core.List.{List, [], ◌∷◌, ◌++◌, append_assoc, append-nil}
 use mathlib.Core.Bool.{Bool, true, cond}
-use Prim.Native.Nat.{ℕ, suc, ◌+◌, ◌-◌, ◌*◌, ◌/◌, ◌≤◌, ◌<◌}
+use Prim.Native.Nat.{ℕ, ◌+◌, ◌-◌, ◌*◌, ◌/◌, ◌≤◌, ◌<◌}
 use native.Mathlib.Numerals.{add-one}
 use native.Mathlib.Omega.{arith}
 use borrow.Author.Tests.{le-leb, lt-leb}
-use lib.ListN.{length, get_or, take, drop, set, length-append, length-drop, take-append-drop}
-use lib.Seq.{length-take-le, drop-cons, drop-drop, take_at, drop_at, sets-eq}
+use lib.ListN.{length, get_or, take, drop, length-append, length-drop, take-append-drop}
+use lib.Seq.{length-take-le, drop-cons, drop-drop, take_at, drop_at}
 use Rattle.errors.specs.Answer.{value, refused, Outcome, leaves}
 use Rattle.elias_fano.specs.Accept.{times, accepted, unopened, open_of}
 use Rattle.elias_fano.proofs.Answers as answers
 use Rattle.winters.specs.declared.Summary.{Summary}
 use Rattle.winters.specs.Winters.{in_span, summary_of, words_of, span_words, compare_answer, compare_of}
-
-pub four-stored : (l : List ℕ) (i a b c d : ℕ) → i + 4 ≤ length l → set (set (set (set l i a) (i + 1) b) (i + 2) c) (i + 3) d ≡ take i l ++ a ∷ b ∷ c ∷ d ∷ [] ++ drop (i + 4) l
-four-stored l i a b c d h =
-    let e : i + 2 ≡ suc (suc i) = omega arith in
-    let f : i + 3 ≡ suc (suc (suc i)) = omega arith in
-    ap₂ (λ (x y : ℕ). set (set (set (set l i a) x b) y c) (i + 3) d) (add-one i) e
-    ∙ ap (λ (x : ℕ). set (set (set (set l i a) (suc i) b) (suc (suc i)) c) x d) f
-    ∙ sets-eq (a ∷ b ∷ c ∷ d ∷ []) l i h
 
 -- ---- the words of spans
 
@@ -51,9 +43,6 @@ pub record Compared (T ss d out : List ℕ) (n : ℕ) : Type 0 where
   pub long : length out ≡ length d
 
 module _ (T ss d : List ℕ) where
-  pub none_compared : Compared T ss d d 0
-  none_compared = record { upto = omega arith; before = refl; after = refl; long = refl }
-
   module _ (count : ℕ) (many : count ≡ length ss - 1) (room : 4 * count ≤ length d) (out : List ℕ) (n : ℕ) (g : Compared T ss d out n) where
     pub one-fits : n < count → 4 * n + 4 ≤ length out
     one-fits l = let e = g.long in omega arith

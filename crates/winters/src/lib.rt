@@ -1,7 +1,7 @@
 // Spans of time side by side, as winters: of each the number of values in it, the first, the last, and the shortest gap between two neighbours.
 //
 // The seconds s0 s1 .. are cut points: the spans are s0 to s1, s1 to s2 and so on. A value t is in the span from s to e if s <= t < e; a span that does not end after its beginning has
-// none. The image is opened once and the tables are made once. The first value of a span is found by the search's halving, and a walk goes on to its end: no rank index is needed.
+// none. The image is opened once. The first value of a span is found by the search's halving, and a walk goes on to its end: no rank index is needed.
 #![tactic(auto)]
 
 ghost use Rattle.std.specs.Prelude.{true, ◌≡◌, [], ◌∷◌, ◌++◌, ◌+◌, ◌-◌, ◌*◌, ◌≤◌, min, length, take as take_list, drop};
@@ -23,12 +23,6 @@ pub struct Summary {
     pub first: u64,
     pub last: u64,
     pub gap: u64,
-}
-
-fn lesser(a: u64, b: u64) -> u64
-    ensures { result ≡ min a b }
-{
-    if a < b { a } else { b }
 }
 
 // The summary where there is no value.
@@ -65,26 +59,26 @@ fn with_others(first: u64, n: usize, last: u64, gap: u64) -> Summary
 }
 
 // The summary of the value `first` and of those from the walk's on and below e. The gap begins with e, which is above every gap.
+// A loop, no chain: a step takes the image and the walk, and leaves a new walk.
 fn summarize_after(image: &Image, first: u64, from: Walk, e: u64) -> Summary
     requires { WalkOver image.now.words.now image.now.parts from × NoneBelow first (drop from.number (times image.now.words.now)) }
     ensures { result ≡ summary_of (first ∷ in_span 0 e (drop from.number (times image.now.words.now))) }
 {
     let end = image.parts.num_pushed as usize;
-    let start = from.number;
     let mut w = from;
     let mut last = first;
     let mut gap = e;
-    while w.number < end {
+    for _ in from.number..end {
         let t = take(image, w);
         let x = t.value;
         if e <= x {
-            return with_others(first, w.number - start, last, gap);
+            return with_others(first, w.number - from.number, last, gap);
         }
-        gap = lesser(gap, x - last);
+        gap = gap.min(x - last);
         last = x;
         w = t.walk;
     }
-    with_others(first, w.number - start, last, gap)
+    with_others(first, w.number - from.number, last, gap)
 }
 
 // The summary of the values from the walk's on and below e.
@@ -117,10 +111,7 @@ fn put(out: &mut [u64], at: usize, s: Summary)
     requires { at + 4 ≤ length out.old }
     ensures { out.new ≡ take_list at out.old ++ words_of s ++ drop (at + 4) out.old }
 {
-    out[at] = s.count as u64;
-    out[at + 1] = s.first;
-    out[at + 2] = s.last;
-    out[at + 3] = s.gap;
+    out[at..at + 4].copy_from_slice(&[s.count as u64, s.first, s.last, s.gap]);
 }
 
 // Four words for each of the first `count` spans; the later words stay.
@@ -128,26 +119,17 @@ fn compare_all(image: &Image, seconds: &[u64], count: usize, out: &mut [u64])
     requires { (count ≡ length seconds.now - 1) × (4 * count ≤ length out.old) }
     ensures { out.new ≡ span_words (times image.now.words.now) seconds.now ++ drop (4 * count) out.old }
 {
-    let mut i: usize = 0;
-    while i < count {
+    for i in 0..count {
         let s = summarize(image, seconds[i], seconds[i + 1]);
         put(&mut *out, 4 * i, s);
-        i += 1;
     }
 }
 
-// How many spans so many seconds cut.
-fn num_spans(seconds: usize) -> usize
-    ensures { result ≡ seconds - 1 }
-{
-    if seconds == 0 { 0 } else { seconds - 1 }
-}
-
-// The spans of an accepted image; the tables are made here.
+// The spans of an opened image.
 fn compare_accepted(image: &Image, seconds: &[u64], out: &mut [u64]) -> Result<usize, Refusal>
     ensures { leaves (of_result result) out.new ≡ compare_answer (times image.now.words.now) seconds.now out.old }
 {
-    let count = num_spans(seconds.len());
+    let count = seconds.len().saturating_sub(1);
     if out.len() / 4 < count {
         return Err(Refusal::ShortBuffer);
     }

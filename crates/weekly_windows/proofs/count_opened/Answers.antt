@@ -12,10 +12,6 @@ returns-then-not-are_windows c = counting.answer_refused _ _ _ _ (sym c.are_wind
 pub returns-then-e-s : goal.returns-then-e-s
 returns-then-e-s c = counting.answer_is _ _ _ _ (sym c.are_windows.ensures ∙ not-false _ c.if-not-are_windows.false-raw) 0 (sym (counting.count_no_span _ _ _ _ c.if-e-s.true))
 
-pub count_within-requires : goal.count_within-requires
-count_within-requires c =
-    (c.begin_from-from.ensures.0, sym c.are_windows.ensures ∙ not-false _ c.if-not-are_windows.false-raw)
-
 pub returns : goal.returns
 returns c =
     let w = c.args.windows.now in

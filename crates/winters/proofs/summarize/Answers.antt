@@ -6,9 +6,6 @@ use Rattle.winters.specs.Winters.{summary_of}
 use Rattle.winters.proofs.Spans as spans
 use Rattle.winters.proofs.summarize.Goals as goal
 
-pub summarize_on-requires : goal.summarize_on-requires
-summarize_on-requires c = c.begin_from-from.ensures.0
-
 pub returns : goal.returns
 returns c =
     c.summarize_on.ensures

@@ -2,11 +2,8 @@
 -- Assumes nothing.
 use mathlib.Core.Path.{◌≡◌, refl, sym, ap, ◌∙◌, subst⁻¹}
 use Prim.Native.Nat.{ℕ, suc, ◌+◌}
-use native.Mathlib.Nat.{le_of_eq}
 use native.Mathlib.Numerals.{add-one}
-use native.Mathlib.Omega.{arith}
 use lib.ListN.{length, take}
-use lib.Seq.{take_all}
 use Rattle.bit_words.proofs.Runs.{Fit}
 use Rattle.elias_fano_words.specs.Times.{last_of}
 use Rattle.elias_fano.proofs.Listing as listing
@@ -24,30 +21,18 @@ walk_from-w-requires c = taking.begin_room c.args.words.now c.args.len c.require
 pub loop-i-init : goal.loop-i-init
 loop-i-init c =
     let ws = c.args.words.now in (
-      omega arith,
       refl,
       c.requires.1 ∙ listing.begins c.args.len (length (ones_of ws c.args.len)) (ones_of ws c.args.len) (ones.fits ws c.args.len c.requires.0.sizable.countable) refl c.args.buffer.now (λ k. (c.slice_known-1.given k).fits) c.requires.0.room,
       taking.begun ws c.args.len c.requires.0.sizable.countable _ c.walk_from-w.ensures,
       refl,
     )
 
-pub take_one-one-requires : goal.take_one-one-requires
-take_one-one-requires c =
-    let l = c.loop-i in
-    (l.invariant.3, omega (arith, c.loop-i-test.true, c.requires.0.sizable.number))
-
 pub file-requires : goal.file-requires
 file-requires c =
     let l = c.loop-i in
     let z = c.requires.0.sizable in
     filing.fileable c.args.words.now c.args.len z.countable c.args.n z.number c.args.buffer.now (λ k. (c.slice_known-1.given k).fits) c.requires.0.room
-    l.i c.loop-i-test.true l.last l.invariant.4 _ c.take_one-one.ensures.place c.args.s z.sizes _ l.invariant.1
-
-pub overflow_add-i : goal.overflow_add-i
-overflow_add-i c = omega (arith, c.loop-i-test.true, c.ranges.n)
-
-pub loop-i-smaller : goal.loop-i-smaller
-loop-i-smaller c = omega (arith, c.loop-i-test.true)
+    l.i c.loop-i-test.true l.last l.invariant.3 _ c.take_one-one.ensures.place c.args.s z.sizes _ l.invariant.0
 
 pub loop-i-preserved : goal.loop-i-preserved
 loop-i-preserved c =
@@ -59,25 +44,10 @@ loop-i-preserved c =
     let h = c.loop-i-test.true in
     let e : suc l.i ≡ l.i + 1 = sym (add-one l.i) in
     let f = c.file.ensures
-    ∙ filing.files ws c.args.len z.countable c.args.n z.number c.args.buffer.now fw c.requires.0.room l.i h _ t.place _ l.invariant.2
+    ∙ filing.files ws c.args.len z.countable c.args.n z.number c.args.buffer.now fw c.requires.0.room l.i h _ t.place _ l.invariant.1
     ∙ ap (filed_first ws c.args.len c.args.buffer.now) e in (
-      omega (arith, h),
       ap length f ∙ listing.length_held c.args.len (length (ones_of ws c.args.len)) (ones_of ws c.args.len) (ones.fits ws c.args.len z.countable) refl c.args.buffer.now fw c.requires.0.room (take (l.i + 1) (ones_of ws c.args.len)),
       f,
       subst⁻¹ (λ (k : ℕ). OnesTaken ws c.args.len k c.take_one-one.result.rest) (add-one l.i) t.rest,
       filing.last_next ws c.args.len z.countable c.args.n z.number c.args.buffer.now fw c.requires.0.room l.i h _ t.place ∙ ap (λ (k : ℕ). last_of (take k (ones_of ws c.args.len))) e,
-    )
-
-pub shape_of-buffer : goal.shape_of-buffer
-shape_of-buffer c = c.loop-i.invariant.1
-
-pub returns : goal.returns
-returns c =
-    let l = c.loop-i in
-    let ws = c.args.words.now in
-    let z = c.requires.0.sizable in
-    let e : l.i ≡ length (ones_of ws c.args.len) = omega (arith, c.loop-i-test.false, l.invariant.0, z.number) in (
-      l.invariant.2 ∙ ap (filed_first ws c.args.len c.args.buffer.now) e
-          ∙ listing.ends c.args.len (length (ones_of ws c.args.len)) (ones_of ws c.args.len) (ones.fits ws c.args.len z.countable) refl c.args.buffer.now (λ k. (c.slice_known-1.given k).fits) c.requires.0.room,
-      l.invariant.4 ∙ ap last_of (take_all l.i (ones_of ws c.args.len) (le_of_eq (sym e))),
     )

@@ -1,7 +1,6 @@
 -- `elias_fano_from_bits::build::file_all` meets its contract: the invariant says that the first i places are filed, and that the walk has taken their ones.
 -- Assumes nothing.
 use mathlib.Core.Path.{◌≡◌}
-use Prim.Native.Nat.{◌-◌, ◌≤◌}
 use lib.ListN.{length, take}
 use Rattle.elias_fano_words.specs.Times.{last_of}
 use Rattle.elias_fano_from_bits.specs.Building.{OnesTaken}
@@ -11,7 +10,4 @@ use Rattle.elias_fano_from_bits.proofs.build.file_all.Given as goal
 
 abbrev pub invariant-loop-i : goal.invariant-loop-i
 invariant-loop-i l =
-    (l.i ≤ l.n) × (length l.buffer ≡ length l.initial.buffer) × (l.buffer ≡ filed_first l.words l.len l.initial.buffer l.i) × OnesTaken l.words l.len l.i l.w × (l.last ≡ last_of (take l.i (ones_of l.words l.len)))
-
-abbrev pub decreases-loop-i : goal.decreases-loop-i
-decreases-loop-i l = l.n - l.i
+    (length l.buffer ≡ length l.initial.buffer) × (l.buffer ≡ filed_first l.words l.len l.initial.buffer l.i) × OnesTaken l.words l.len l.i l.w × (l.last ≡ last_of (take l.i (ones_of l.words l.len)))

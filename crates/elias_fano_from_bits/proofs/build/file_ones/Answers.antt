@@ -3,7 +3,6 @@
 use mathlib.Core.Path.{◌≡◌, refl, sym, ap, ◌∙◌, subst}
 use mathlib.Core.List.{List, ◌++◌}
 use Prim.Native.Nat.{ℕ, ◌≤◌}
-use native.Mathlib.Omega.{arith}
 use lib.ListN.{length, drop, replicate}
 use Rattle.bit_words.proofs.Runs.{Fit}
 use Rattle.elias_fano_words.specs.Sizes.{start_len}
@@ -33,15 +32,6 @@ module _ (ws : List ℕ) (len n : ℕ) (s : Sizes) (w : List ℕ) (p : Writing w
 
   writing : Writing ws len n s (length x)
   writing = record { sizable = p.sizable; room = subst (λ (k : ℕ). start_len len N ≤ k) (sym same.1) p.room }
-
-pub fill-requires : goal.fill-requires
-fill-requires c = let a = ap (λ (z : Sizes). z.start_len) c.requires.sizable.sizes in omega (arith, c.requires.room)
-
-pub file_all-requires : goal.file_all-requires
-file_all-requires c =
-    let fw : Fit c.args.buffer.now = λ k. (c.slice_known-1.given k).fits in
-    let e = c.fill.ensures in
-    (writing c.args.words.now c.args.len c.args.n c.args.s c.args.buffer.now c.requires fw _ e, zeroed c.args.words.now c.args.len c.args.n c.args.s c.args.buffer.now c.requires fw _ e)
 
 pub returns : goal.returns
 returns c =

@@ -1,8 +1,5 @@
 -- `elias_fano_from_bits::build::has_room` meets its contract.
 -- Assumes nothing.
-use mathlib.Core.Path.{ap}
-use Prim.Native.Nat.{ℕ}
-use lib.Dec.{leb}
 use Rattle.elias_fano_from_bits.proofs.Filing as filing
 use Rattle.elias_fano_from_bits.proofs.build.has_room.Goals as goal
 
@@ -11,6 +8,3 @@ limit_of-requires c = let a = c.args in filing.limit_ready a.words.now a.len a.n
 
 pub returns-then-limit_of-room : goal.returns-then-limit_of-room
 returns-then-limit_of-room c = let a = c.args in filing.limit_room a.words.now a.len a.n a.s c.requires a.rank _ _ c.limit_of.ensures c.if-limit_of-room.true
-
-pub returns : goal.returns
-returns c = ap (λ (k : ℕ). leb k c.args.room) c.measured_len.ensures

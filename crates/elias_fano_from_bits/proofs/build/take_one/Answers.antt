@@ -6,7 +6,6 @@ use Rattle.elias_fano_from_bits.specs.Building.{NextTaken}
 use Rattle.elias_fano_from_bits.proofs.Taking as taking
 use Rattle.elias_fano_from_bits.proofs.build.take_one.Goals as goal
 
-
 pub returns : goal.returns
 returns c =
     subst⁻¹ (λ (y : ℕ). NextTaken c.args.words.now c.args.len c.args.i (record { place = y; rest = c.next_within-s.result.walk })) (c.unwrap_or-2.ensures ∙ ap (λ (o : Option ℕ). unwrap_or o 0) c.unwrap_or.ensures)

@@ -6,7 +6,3 @@ use Rattle.elias_fano_from_bits.proofs.build.test_ones.Goals as goal
 
 pub returns-then-n-gt-MAX_VALS : goal.returns-then-n-gt-MAX_VALS
 returns-then-n-gt-MAX_VALS c = cases.ones_2 c.args.words.now c.args.len c.args.rank c.args.room (omega (arith, c.requires.number, c.if-n-gt-MAX_VALS.true))
-
-pub test_room-requires : goal.test_room-requires
-test_room-requires c =
-    (record { valid = c.requires.valid; small = c.ranges.len.fits; some = omega (arith, c.requires.number, c.requires.some); most = omega (arith, c.requires.number, c.if-n-gt-MAX_VALS.false) }, c.requires.number)

@@ -1,6 +1,5 @@
 -- `elias_fano_from_bits::build::zeros_overflow` meets its contract.
 -- Assumes nothing.
-use Rattle.elias_fano.proofs.Measuring as measuring
 use Rattle.elias_fano_from_bits.proofs.Filing as filing
 use Rattle.elias_fano_from_bits.proofs.build.zeros_overflow.Goals as goal
 
@@ -12,9 +11,3 @@ overflow_of-requires c =
     let a = c.args in
     let q = c.requires in
     (q.countable, filing.low_is a.words.now a.len a.n a.s q, filing.zeros_are a.words.now a.len a.n a.s q)
-
-pub returns-then-rank : goal.returns-then-rank
-returns-then-rank c = measuring.chosen c.args.rank _ _ c.if-rank.true c.overflow_of.ensures
-
-pub returns : goal.returns
-returns c = measuring.not_chosen c.args.rank _ c.if-rank.false

@@ -16,64 +16,9 @@ use Rattle.elias_fano_from_bits.proofs.Highs as highs
 use Rattle.elias_fano_from_bits.proofs.Marks as marks
 use Rattle.elias_fano_from_bits.proofs.measure.overflow_of.Goals as goal
 
-pub overflow_sub-blocks : goal.overflow_sub-blocks
-overflow_sub-blocks c = omega arith
-
-pub overflow_add-blocks : goal.overflow_add-blocks
-overflow_add-blocks c =
-    let few : c.args.n ≤ 50331649 = let a = highs.few c.args.words.now c.args.len c.requires.0 c.args.over_one in omega (arith, c.requires.2) in
-    let a = few in omega arith
-
 pub loop-j-init : goal.loop-j-init
 loop-j-init c =
-    (omega arith, sym (index.before_none (positions_of c.args.words.now c.args.len c.args.over_one)), marks.first_mark c.args.words.now c.args.len, marks.first_upto c.args.over_one c.args.l _)
-
-pub overflow_mul-k : goal.overflow_mul-k
-overflow_mul-k c =
-    let there : 1024 * c.loop-j.j < c.args.n = omega (arith, c.loop-j-test.true) in
-    let few : c.args.n ≤ 50331649 = let a = highs.few c.args.words.now c.args.len c.requires.0 c.args.over_one in omega (arith, c.requires.2) in
-    let h = there in let a = few in omega arith
-
-pub block_size-size-requires : goal.block_size-size-requires
-block_size-size-requires c =
-    let there : 1024 * c.loop-j.j < c.args.n = omega (arith, c.loop-j-test.true) in
-    let h = there in omega arith
-
-pub high_place-first-requires : goal.high_place-first-requires
-high_place-first-requires c =
-    let there : 1024 * c.loop-j.j < c.args.n = omega (arith, c.loop-j-test.true) in
-    let l = c.loop-j in
-    let h = there in
-    record { countable = c.requires.0; low = c.requires.1; there = omega (arith, c.requires.2); marked = l.invariant.2; upto = l.invariant.3 }
-
-pub overflow_sub-size : goal.overflow_sub-size
-overflow_sub-size c =
-    let there : 1024 * c.loop-j.j < c.args.n = omega (arith, c.loop-j-test.true) in
-    let h = there in let e = c.block_size-size.ensures in omega arith
-
-pub overflow_add-k : goal.overflow_add-k
-overflow_add-k c =
-    let there : 1024 * c.loop-j.j < c.args.n = omega (arith, c.loop-j-test.true) in
-    let few : c.args.n ≤ 50331649 = let a = highs.few c.args.words.now c.args.len c.requires.0 c.args.over_one in omega (arith, c.requires.2) in
-    let h = there in
-    let e = c.block_size-size.ensures in
-    let a = few in
-    omega arith
-
-pub high_place-last-requires : goal.high_place-last-requires
-high_place-last-requires c =
-    let there : 1024 * c.loop-j.j < c.args.n = omega (arith, c.loop-j-test.true) in
-    let l = c.loop-j in
-    let h = there in
-    let e = c.block_size-size.ensures in
-    let q = c.high_place-first.ensures in
-      record {
-        countable = c.requires.0;
-        low = c.requires.1;
-        there = omega (arith, c.requires.2);
-        marked = q.marked;
-        upto = marks.upto_more c.args.over_one c.args.l c.high_place-first.result.mark (1024 * l.j) (1024 * l.j + (c.block_size-size.result - 1)) (omega arith) q.upto;
-      }
+    (sym (index.before_none (positions_of c.args.words.now c.args.len c.args.over_one)), marks.first_mark c.args.words.now c.args.len, marks.first_upto c.args.over_one c.args.l _)
 
 pub spilled-overflow-requires : goal.spilled-overflow-requires
 spilled-overflow-requires c =
@@ -90,20 +35,12 @@ overflow_add-overflow c =
     let next_before : c.loop-j.overflow + c.spilled-overflow.result ≡ before (positions_of c.args.words.now c.args.len c.args.over_one) (suc c.loop-j.j) = let l = c.loop-j in
     let P = positions_of c.args.words.now c.args.len c.args.over_one in
     highs.next_before P l.j _ _ _ (c.block_size-size.ensures ∙ ap (λ (y : ℕ). min 1024 (y - 1024 * l.j)) c.requires.2)
-    c.high_place-first.ensures.at c.high_place-last.ensures.at _ _ l.invariant.1 c.spilled-overflow.ensures in
+    c.high_place-first.ensures.at c.high_place-last.ensures.at _ _ l.invariant.0 c.spilled-overflow.ensures in
     let few : c.args.n ≤ 50331649 = let a = highs.few c.args.words.now c.args.len c.requires.0 c.args.over_one in omega (arith, c.requires.2) in
     let a = next_before in
     let b = index.before_le (positions_of c.args.words.now c.args.len c.args.over_one) (suc c.loop-j.j) in
     let d = few in
     omega (arith, c.requires.2)
-
-pub overflow_add-j : goal.overflow_add-j
-overflow_add-j c =
-    let few : c.args.n ≤ 50331649 = let a = highs.few c.args.words.now c.args.len c.requires.0 c.args.over_one in omega (arith, c.requires.2) in
-    let d = few in omega (arith, c.loop-j-test.true)
-
-pub loop-j-smaller : goal.loop-j-smaller
-loop-j-smaller c = omega (arith, c.loop-j-test.true)
 
 pub loop-j-preserved : goal.loop-j-preserved
 loop-j-preserved c =
@@ -111,12 +48,11 @@ loop-j-preserved c =
     let next_before : c.loop-j.overflow + c.spilled-overflow.result ≡ before (positions_of c.args.words.now c.args.len c.args.over_one) (suc c.loop-j.j) = let l = c.loop-j in
     let P = positions_of c.args.words.now c.args.len c.args.over_one in
     highs.next_before P l.j _ _ _ (c.block_size-size.ensures ∙ ap (λ (y : ℕ). min 1024 (y - 1024 * l.j)) c.requires.2)
-    c.high_place-first.ensures.at c.high_place-last.ensures.at _ _ l.invariant.1 c.spilled-overflow.ensures in
+    c.high_place-first.ensures.at c.high_place-last.ensures.at _ _ l.invariant.0 c.spilled-overflow.ensures in
     let l = c.loop-j in
     let e = c.block_size-size.ensures in
     let h = there in
     let q = c.high_place-last.ensures in (
-      omega (arith, c.loop-j-test.true),
       next_before ∙ ap (before (positions_of c.args.words.now c.args.len c.args.over_one)) (sym (add-one l.j)),
       q.marked,
       marks.upto_more c.args.over_one c.args.l c.high_place-last.result.mark (1024 * l.j + (c.block_size-size.result - 1)) (1024 * (l.j + 1)) (omega arith) q.upto,
@@ -126,4 +62,4 @@ pub returns : goal.returns
 unfolding blocks
 returns c =
     let l = c.loop-j in
-    l.invariant.1 ∙ ap (before (positions_of c.args.words.now c.args.len c.args.over_one)) (let e : l.j ≡ (c.args.n + 1023) / 1024 = omega (arith, c.loop-j-test.false, l.invariant.0) in e ∙ ap (λ (m : ℕ). (m + 1023) / 1024) c.requires.2)
+    l.invariant.0 ∙ ap (before (positions_of c.args.words.now c.args.len c.args.over_one)) (let e : l.j ≡ (c.args.n + 1023) / 1024 = omega (arith, c.loop-j-test.false) in e ∙ ap (λ (m : ℕ). (m + 1023) / 1024) c.requires.2)

@@ -2,14 +2,11 @@
 -- passed the block j.
 -- Assumes nothing.
 use mathlib.Core.Path.{◌≡◌}
-use Prim.Native.Nat.{◌-◌, ◌*◌, ◌≤◌}
+use Prim.Native.Nat.{◌*◌}
 use Rattle.darray_positions.specs.Index.{before}
 use Rattle.elias_fano_from_bits.specs.Building.{positions_of, Marked, Upto}
 use Rattle.elias_fano_from_bits.proofs.measure.overflow_of.Given as goal
 
 abbrev pub invariant-loop-j : goal.invariant-loop-j
 invariant-loop-j l =
-    (l.j ≤ l.blocks) × (l.overflow ≡ before (positions_of l.words l.len l.over_one) l.j) × Marked l.words l.len l.from × Upto l.over_one l.l l.from (1024 * l.j)
-
-abbrev pub decreases-loop-j : goal.decreases-loop-j
-decreases-loop-j l = l.blocks - l.j
+    (l.overflow ≡ before (positions_of l.words l.len l.over_one) l.j) × Marked l.words l.len l.from × Upto l.over_one l.l l.from (1024 * l.j)

@@ -1,37 +1,25 @@
--- `weekly_windows::order::in_form` meets its contract. The invariant: the words from `i` on are in form if all are. The measure: how many are left.
--- Assumes nothing.
+-- `weekly_windows::order::in_form` meets its contract. Assumes nothing.
 use borrow.Author.Tests.{not-true, not-false}
-use mathlib.Core.Path.{refl, sym, ◌∙◌}
+use mathlib.Core.Path.{◌≡◌, sym, ap, ◌∙◌}
+use Prim.Native.Nat.{ℕ, ◌+◌, ◌*◌}
 use native.Mathlib.Omega.{arith}
+use lib.ListN.{drop}
+use Rattle.weekly_windows.specs.Windows.{in_form}
 use Rattle.weekly_windows.proofs.Pairs as pairs
 use Rattle.weekly_windows.proofs.order.in_form.Goals as goal
 
-pub loop-i-init : goal.loop-i-init
-loop-i-init c = (omega arith, refl)
-
-pub overflow_sub-words : goal.overflow_sub-words
-overflow_sub-words c = omega arith
-
-pub returns-then-words-i-lt2 : goal.returns-then-words-i-lt2
-returns-then-words-i-lt2 c = let l = c.loop-i in sym (l.invariant.1 ∙ pairs.form_one _ l.i c.loop-i-test.true c.if-words-i-lt2.true)
-
-pub bounds-words-i : goal.bounds-words-i
-bounds-words-i c = omega arith
-
-pub bounds-words-i-in-loop-i : goal.bounds-words-i-in-loop-i
-bounds-words-i-in-loop-i c = omega arith
-
 pub returns-then-not-is_window : goal.returns-then-not-is_window
-returns-then-not-is_window c = let l = c.loop-i in sym (l.invariant.1 ∙ pairs.form_wrong _ l.i (omega (arith, c.if-words-i-lt2.false)) _ c.is_window.ensures (not-true _ c.if-not-is_window.true-raw))
+returns-then-not-is_window c =
+    let l = c.loop-k in
+    sym (l.invariant ∙ pairs.form_wrong _ (2 * l.k) (omega (arith, c.loop-k-test.true)) _ c.is_window.ensures (not-true _ c.if-not-is_window.true-raw))
 
-pub loop-i-smaller : goal.loop-i-smaller
-loop-i-smaller c = omega (arith, c.if-words-i-lt2.false)
-
-pub loop-i-preserved : goal.loop-i-preserved
-loop-i-preserved c =
-    let l = c.loop-i in
-    let h = c.if-words-i-lt2.false in
-    (omega arith, l.invariant.1 ∙ pairs.form_right _ l.i (omega arith) _ c.is_window.ensures (not-false _ c.if-not-is_window.false-raw))
+pub loop-k-preserved : goal.loop-k-preserved
+loop-k-preserved c =
+    let l = c.loop-k in
+    let e : 2 * l.k + 2 ≡ 2 * (l.k + 1) = omega arith in
+    l.invariant ∙ pairs.form_right _ (2 * l.k) (omega (arith, c.loop-k-test.true)) _ c.is_window.ensures (not-false _ c.if-not-is_window.false-raw) ∙ ap (λ (j : ℕ). in_form (drop j c.args.words.now)) e
 
 pub returns : goal.returns
-returns c = let l = c.loop-i in sym (l.invariant.1 ∙ pairs.form_none _ l.i c.loop-i-test.false)
+returns c =
+    let l = c.loop-k in
+    pairs.form_left _ (2 * l.k) (omega (arith, c.loop-k-test.false)) (omega arith) (omega arith) ∙ sym l.invariant

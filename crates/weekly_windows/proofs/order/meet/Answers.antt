@@ -9,4 +9,4 @@ pub returns-then-y-c : goal.returns-then-y-c
 returns-then-y-c c = inserting.met-after _ _ _ _ c.if-d-x.false c.if-y-c.true
 
 pub returns : goal.returns
-returns c = inserting.met-joined _ _ _ _ c.if-d-x.false c.if-y-c.false _ _ c.lesser.ensures c.greater.ensures
+returns c = inserting.met-joined _ _ _ _ c.if-d-x.false c.if-y-c.false _ _ c.min.ensures c.max.ensures

@@ -1,12 +1,8 @@
--- `weekly_windows::order::order` meets its contract. The invariant: the first `i` words are in order. The measure: how many words are left.
+-- `weekly_windows::order::order` meets its contract. The invariant: the first `k` windows are in order.
 -- Assumes nothing.
-use Prim.Native.Nat.{◌-◌}
-use lib.ListN.{length}
+use Prim.Native.Nat.{◌*◌}
 use Rattle.weekly_windows.proofs.Inserting as inserting
 use Rattle.weekly_windows.proofs.order.order.Given as goal
 
-abbrev pub invariant-loop-i : goal.invariant-loop-i
-invariant-loop-i l = inserting.Orders l.windows l.cuts l.n l.i
-
-abbrev pub decreases-loop-i : goal.decreases-loop-i
-decreases-loop-i l = length l.windows - l.i
+abbrev pub invariant-loop-k : goal.invariant-loop-k
+invariant-loop-k l = inserting.Orders l.windows l.cuts l.n (2 * l.k)
