@@ -35,6 +35,12 @@ place_is (Ok (Some y)) x e = cc
 place_is (Ok None) x e = let z : ◌≡◌ {A = ℕ} 0 1 = cc in omega arith
 place_is (Err r) x e = let z : ◌≡◌ {A = ℕ} 0 1 = cc in omega arith
 
+-- a value is the answer of no place that is none
+other_place : (q : Result (Option ℕ) Refusal) (x : ℕ) → of_optional q ≡ value x → ((y : ℕ) → q ≡ Ok (Some y) → ⊥) → ⊥
+other_place (Ok (Some y)) x e k = k y refl
+other_place (Ok None) x e k = let z : ◌≡◌ {A = ℕ} 0 1 = cc in omega arith
+other_place (Err r) x e k = let z : ◌≡◌ {A = ℕ} 0 1 = cc in omega arith
+
 -- ---- the beginning
 
 module _ (ws : List ℕ) (len : ℕ) (ok : Countable ws len) where
@@ -63,6 +69,9 @@ module _ (ws : List ℕ) (len i : ℕ) (w : Unary) (a : OnesTaken ws len i w) (h
   module _ (r : Stepped) (e : of_stepped r ≡ next_of ws len w) where
     is_step : of_stepped r ≡ step (value x) (walk_at ws len x (x + 1))
     is_step = e ∙ steps.step_ok ws len w true 1 0 (Some x) a.over.ok (ap (select f len) (add-zero (count f w.from) ∙ a.before) ∙ next)
+
+    pub no_other : ((y : ℕ) → r.place ≡ Ok (Some y) → ⊥) → ⊥
+    no_other k = other_place r.place x (ap (λ (y : Step). y.answer) is_step) k
 
     count_next : count f (x + 1) ≡ suc i
     unfolding count

@@ -4,8 +4,7 @@
 // k plus the number of ones of the source below (k + 1) × 2^l. So the ends of each block of both indexes are found in one pass over the source.
 // All functions are inner: they demand bits with as many ones as a record takes.
 ghost use Rattle.std.specs.Prelude.{◌≡◌, true, false, ◌+◌, ◌*◌, ◌^◌, ◌≤◌, ◌<◌, min, length};
-ghost use Rattle.broadword.specs.Bits.{count};
-ghost use Rattle.bit_words.specs.Vector.{words_for, bit_over};
+ghost use Rattle.bit_words.specs.Vector.{words_for};
 ghost use Rattle.darray_positions.specs.Index.{blocks, before};
 ghost use Rattle.elias_fano_from_bits.specs.Building.{Countable, low_of, positions_of, Marked, Seekable, Seen};
 

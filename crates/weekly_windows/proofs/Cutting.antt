@@ -18,18 +18,6 @@ use Rattle.weekly_windows.specs.Ordering.{Ordered, AllUpto, CutsUpto, PartStarts
 -- ---- how many are at or below r
 
 module _ (cuts : List ℕ) (n r : ℕ) (o : Ordered cuts n) (h : r < week) where
-  -- the end of the week is not
-  pub cut_passed : (k : ℕ) → k ≤ n → AllUpto cuts r k → get_or cuts k 0 ≤ r → (k < n) × AllUpto cuts r (k + 1)
-  cut_passed k l f g = (some (ℕ_discrete k n), λ j m. go j m (ℕ_discrete j k))
-    where
-      some : Dec (k ≡ n) → k < n
-      some (yes e) = absurd (let t = o.top in let q = ap (λ (i : ℕ). get_or cuts i 0) e in omega arith)
-      some (no e) = omega arith
-
-      go : (j : ℕ) → j < k + 1 → Dec (j ≡ k) → get_or cuts j 0 ≤ r
-      go j m (yes e) = subst (λ (i : ℕ). get_or cuts i 0 ≤ r) (sym e) g
-      go j m (no e) = f j (omega arith)
-
   -- the cuts do not fall
   pub cuts_end : (k : ℕ) → k ≤ n → AllUpto cuts r k → r < get_or cuts k 0 → CutsUpto cuts n r k
   cuts_end k l f g = record { few = l; before = f; after = λ j m i. lt_of_lt_of_le g (climbs j m i) }

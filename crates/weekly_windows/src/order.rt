@@ -5,7 +5,7 @@
 // cuts are at or below its first second, so the next few are compared and no others: two, mostly.
 //
 // But for `are_windows` the functions here are inner: they demand windows in form, or cuts as `order` leaves them.
-ghost use Rattle.std.specs.Prelude.{true, ◌&&◌, ◌≡◌, [], ◌+◌, ◌%◌, ◌≤◌, ◌<◌, min, max, leb, ltb, length, take};
+ghost use Rattle.std.specs.Prelude.{true, ◌&&◌, ◌≡◌, [], ◌+◌, ◌%◌, ◌≤◌, ◌<◌, leb, ltb, length, take};
 ghost use Rattle.broadword.specs.Fields.{flag};
 ghost use Rattle.weekly_windows.specs.Ordering.{met_of, inserted, joined, Ordered, AllUpto, CutsUpto, PartStarts};
 ghost use Rattle.weekly_windows.specs.Windows.{in_form, are_windows, in_some};

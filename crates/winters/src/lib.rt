@@ -4,9 +4,9 @@
 // none. The image is opened once. The first value of a span is found by the search's halving, and a walk goes on to its end: no rank index is needed.
 #![tactic(auto)]
 
-ghost use Rattle.std.specs.Prelude.{true, ◌≡◌, [], ◌∷◌, ◌++◌, ◌+◌, ◌-◌, ◌*◌, ◌≤◌, min, length, take as take_list, drop};
+ghost use Rattle.std.specs.Prelude.{◌≡◌, [], ◌∷◌, ◌++◌, ◌+◌, ◌-◌, ◌*◌, ◌≤◌, length, take as take_list, drop};
 ghost use Rattle.errors.specs.Answer.{leaves, of_result};
-ghost use Rattle.elias_fano.specs.Accept.{accepted, times};
+ghost use Rattle.elias_fano.specs.Accept.{times};
 ghost use Rattle.elias_fano_walk.specs.Walking.{WalkOver};
 ghost use Rattle.winters.specs.Adding.{NoneBelow, with_others};
 ghost use Rattle.winters.specs.Winters.{in_span, summary_of, words_of, span_words, compare_answer, compare_of};
