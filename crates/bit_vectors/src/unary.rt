@@ -76,7 +76,7 @@ fn ended(len: usize) -> Stepped
     }
 }
 
-// The first word from the word `first` on that is not 0; `used` where none is left.
+// The first word from the word `first` on that is not 0; `used` where none is left. (No Option: who knows of such a word takes the number as it is.)
 pub fn skip_zeros(words: &[u64], first: usize, used: usize) -> usize
     requires { (first ≤ used) × (used ≤ length words.now) }
     ensures { Skipped (bit_over true words.now) first used 0 result 0 }
@@ -96,7 +96,7 @@ struct Left {
     rest: u64,
 }
 
-// The first word with a one that is still ahead; a rest of 0 where there is none.
+// The first word with a one that is still ahead; a rest of 0 where there is none. (No Option: `lsb` of 0 is the none.)
 fn left_of(words: &[u64], len: usize, w: Unary) -> Left
     requires { Walking words.now len w }
     ensures { OneAhead words.now len w.from result.at result.rest }

@@ -131,6 +131,7 @@ pub struct Spot {
 }
 
 // The word, from the word `first` on, in which the one with k before it stands, counted from that word on; `used` where none has it.
+// (A number and no Option: who knows that a word has it takes the number as it is.)
 pub fn skip_words(words: &[u64], first: usize, used: usize, over_one: bool, k: usize) -> Spot
     requires { (first ≤ used) × (used ≤ length words.now) }
     ensures { Skipped (bit_over over_one words.now) first used k result.word result.left }

@@ -1,5 +1,5 @@
 -- What is measured of an image's indexes, and what is written where there is no second one. Assumes nothing.
-use Rattle.std.specs.Prelude.{Ok, Err, Result}
+use Rattle.std.specs.Prelude.{Ok, Err, Result, IsOk}
 use mathlib.Core.Path.{◌≡◌, refl, sym, ap, ◌∙◌}
 use mathlib.Core.List.{List, [], ◌∷◌, ◌++◌}
 use mathlib.Core.Bool.{Bool, true, false, cond}
@@ -21,8 +21,12 @@ module _ (b : Bool) (ws : List ℕ) (len : ℕ) (r : Result Sizes Refusal) (e : 
   pub overflow_is : (s : Sizes) → r ≡ Ok s → s.overflow ≡ before (positions b ws len) (blocks (positions b ws len))
   overflow_is s h = (measured_sized b ws len s (ap of_measured (sym h) ∙ e)).overflow
 
-  pub not_refused : (x : Refusal) → r ≡ Err x → Measurable ws len → ⊥
+  not_refused : (x : Refusal) → r ≡ Err x → Measurable ws len → ⊥
   not_refused x h m = built.measures ws len b [] _ m.0 (omega (arith, m.1)) (ap of_measured (sym h) ∙ e)
+
+pub measured : (b : Bool) (ws : List ℕ) (len : ℕ) (r : Result Sizes Refusal) → of_measured r ≡ measure_of ws len b → Measurable ws len → IsOk r
+measured b ws len (Ok s) e m = refl
+measured b ws len (Err x) e m = absurd (not_refused b ws len (Err x) e x refl m)
 
 -- what is there with the choice only
 pub chosen : (c : Bool) (x y : ℕ) → c ≡ true → x ≡ y → x ≡ cond c y 0

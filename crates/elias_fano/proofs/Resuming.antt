@@ -2,12 +2,14 @@
 use mathlib.Core.Path.{◌≡◌, refl, sym, ap, ap₂, ◌∙◌}
 use mathlib.Core.List.{List, [], ◌∷◌, ◌++◌}
 use mathlib.Core.Bool.{Bool, true, false, not, ◌&&◌, cond}
-use Prim.Native.Nat.{ℕ, suc, ◌+◌, ◌-◌, ◌*◌, ◌^◌, ◌≤◌, ◌<◌}
+use Prim.Native.Nat.{ℕ, zero, suc, ◌+◌, ◌-◌, ◌*◌, ◌^◌, ◌≤◌, ◌<◌}
 use native.Mathlib.Omega.{arith}
-use borrow.Author.Tests.{eq-eqb, ne_eqb, eqb-true, ltb-false}
+use borrow.Author.Tests.{eqb-true, ltb-false}
 use lib.Dec.{eqb, ltb}
-use lib.ListN.{length, get_or, take, drop, replicate, drop_of_length-le, take-append-drop}
-use lib.Seq.{drop-cons, drop-drop, length-take-le}
+use lib.ListN.{length, get_or, take, drop, replicate, take-append-drop}
+use lib.Seq.{drop-drop, length-take-le}
+use Rattle.std.specs.Prelude.{◌↔◌, All}
+use Rattle.std.specs.Bool.{one_answer}
 use Rattle.errors.specs.Answer.{Answer, done, refused}
 use Rattle.broadword.proofs.Truth.{and_true}
 use Rattle.bit_words.specs.Vector.{words_for}
@@ -28,22 +30,20 @@ use Rattle.elias_fano.proofs.Testing as testing
 
 -- ---- words that are all 0
 
-module _ (ws : List ℕ) (i : ℕ) where
-  zeros_from : i < length ws → zeros (drop i ws) ≡ (eqb (get_or ws i 0) 0 && zeros (drop (suc i) ws))
-  unfolding zeros
-  zeros_from h = ap zeros (drop-cons ws i 0 h)
+zero_at : (l : List ℕ) (k d : ℕ) → zeros l ≡ true → k < length l → eqb (get_or l k d) 0 ≡ true
+unfolding zeros
+zero_at [] k d e i = absurd (omega (arith, i))
+zero_at (x ∷ l) zero d e i = (and_true (eqb x 0) (zeros l) e).0
+zero_at (x ∷ l) (suc k) d e i = zero_at l k d (and_true (eqb x 0) (zeros l) e).1 (omega (arith, i))
 
-  pub one_set : i < length ws → (get_or ws i 0 ≡ 0 → ⊥) → zeros (drop i ws) ≡ false
-  one_set h d = zeros_from h ∙ ap (λ (b : Bool). b && zeros (drop (suc i) ws)) (ne_eqb (get_or ws i 0) 0 d)
+zeros_of : (l : List ℕ) → All (λ x. eqb x 0 ≡ true) l → zeros l ≡ true
+unfolding zeros
+zeros_of [] h = refl
+zeros_of (x ∷ l) h = simp (h 0 0 (omega arith)) (zeros_of l (λ k d i. h (suc k) d (omega arith)))
 
-  pub next_zero : i < length ws → get_or ws i 0 ≡ 0 → zeros (drop i ws) ≡ zeros (drop (i + 1) ws)
-  next_zero h e =
-      zeros_from h ∙ ap (λ (b : Bool). b && zeros (drop (suc i) ws)) (eq-eqb (get_or ws i 0) 0 e)
-      ∙ ap (λ (k : ℕ). zeros (drop k ws)) (let z : suc i ≡ i + 1 = omega arith in z)
-
-  pub none_left : length ws ≤ i → zeros (drop i ws) ≡ true
-  unfolding zeros
-  none_left h = ap zeros (drop_of_length-le ws {i = i} h)
+-- what is true just where all words are 0
+pub zeros_tested : (ws : List ℕ) (r : Bool) → ((r ≡ true) ↔ All (λ x. eqb x 0 ≡ true) ws) → r ≡ zeros ws
+zeros_tested ws r h = one_answer r (zeros ws) h ((λ e k d i. zero_at ws k d e i), zeros_of ws)
 
 all_zero : (l : List ℕ) → zeros l ≡ true → l ≡ replicate (length l) 0
 unfolding zeros

@@ -196,12 +196,7 @@ fn is_intact(b: Builder, s: Sizes, words: &[u64]) -> bool
 fn are_zeros(words: &[u64]) -> bool
     ensures { result ≡ zeros words.now }
 {
-    for i in 0..words.len() {
-        if words[i] != 0 {
-            return false;
-        }
-    }
-    true
+    words.iter().all(|w| *w == 0)
 }
 
 // The builder again, by the words: those of the header are 0 before a finish.

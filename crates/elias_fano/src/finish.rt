@@ -23,10 +23,7 @@ fn overflow_over(words: &[u64], len: usize, over_one: bool) -> usize
     requires { Measurable words.now len }
     ensures { result ≡ before (positions over_one words.now len) (blocks (positions over_one words.now len)) }
 {
-    match measure(words, len, over_one) {
-        Ok(s) => s.overflow,
-        Err(_) => 0,
-    }
+    measure(words, len, over_one).unwrap().overflow
 }
 
 // How many of the zeros do, if there is to be an index over them.

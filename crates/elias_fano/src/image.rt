@@ -54,7 +54,7 @@ fn parts_of(universe: u64, num_vals: u64, num_pushed: u64, rank: bool, overflow:
     }
 }
 
-// The parts of no words.
+// The parts of no words. (No Option around the parts: `sparse_open` of the sparse vector names these, and so does the opening of no items.)
 pub fn no_parts() -> Parts
     ensures { result ≡ no_parts }
 {

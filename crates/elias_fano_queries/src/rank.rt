@@ -144,7 +144,7 @@ fn from_low(image: &Image, k: usize, low: u64) -> u64
     requires { k < image.now.parts.num_pushed }
     ensures { result ≡ flag (leb low (get_or (times image.now.words.now) k 0 % 2 ^ image.now.parts.low_len)) }
 {
-    if low <= low_of(image, k) { 1 } else { 0 }
+    u64::from(low <= low_of(image, k))
 }
 
 // How many values are below val, which is below the universe. Few buckets hold two values: where one of the two bits before the bucket's end is not

@@ -1,5 +1,5 @@
 -- A walk over the values of an image: how it begins, what a step finds, and what it leaves. Assumes nothing.
-use Rattle.std.specs.Prelude.{Some, None}
+use Rattle.std.specs.Prelude.{Some, None, Option, IsSome}
 use mathlib.Core.Path.{◌≡◌, refl, sym, ap, ap₂, ◌∙◌, subst, subst⁻¹}
 use mathlib.Core.List.{List}
 use mathlib.Core.Bool.{true, false}
@@ -157,8 +157,9 @@ module _ (i : List ℕ) (ok : accepted i ≡ true) (p : Parts) (ep : p ≡ parts
             subst⁻¹ (OneAhead (high_part i p) p.high_len a.ones.from (a.ones.position / 64)) a.left
             (left_buf (high_part i p) p.high_len a.ones.position a.ones.from a.ones.buf fit v a.over.behind a.over.near a.over.rest (λ e. n (a.left ∙ e)))
 
-        pub some_lowest : select (bit rest) 64 0 ≡ None → ⊥
-        some_lowest e = n (none_zero rest ahead.small e)
+        pub some_lowest : (o : Option ℕ) → o ≡ select (bit rest) 64 0 → IsSome o
+        some_lowest (Some b) e = refl
+        some_lowest None e = absurd (n (none_zero rest ahead.small (sym e)))
 
         module _ (t : ℕ) (e : select (bit rest) 64 0 ≡ Some t) where
           place_is : a.ones.position / 64 * 64 + t ≡ base + t

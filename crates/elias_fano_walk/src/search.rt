@@ -206,7 +206,7 @@ fn skip_below(image: &Image, from: Walk, val: u64) -> Walk
 {
     let end = image.parts.num_pushed as usize;
     let mut w = from;
-    while w.number < end {
+    for _n in w.number..end {
         let t = take(image, w);
         if val <= t.value {
             return w;

@@ -115,20 +115,11 @@ fn take_one(image: &Image, w: Walk) -> One
     requires { WalkOver image.now.words.now image.now.parts w × (w.number < image.now.parts.num_pushed) }
     ensures { OneTaken image.now.words.now image.now.parts w result }
 {
-    let ahead = ahead_of(image, w);
-    let base = ahead.base;
-    let rest = ahead.rest;
-    match lsb(rest) {
-        Some(bit) => One {
-            place: base + bit,
-            base,
-            rest: rest & (rest - 1),
-        },
-        None => One {
-            place: 0,
-            base,
-            rest,
-        },
+    let Ahead { base, rest } = ahead_of(image, w);
+    One {
+        place: base + lsb(rest).unwrap(),
+        base,
+        rest: rest & (rest - 1),
     }
 }
 

@@ -1,7 +1,7 @@
 // Questions by the many: the image is opened once a call; each question then costs what it costs of an opened image.
 ghost use Rattle.std.specs.Prelude.{◌≡◌, true, ◌∷◌, ◌++◌, ◌+◌, ◌*◌, ◌<◌, ℕ, length, take as take_list, drop};
 ghost use Rattle.errors.specs.Answer.{Answer, value, leaves};
-ghost use Rattle.elias_fano.specs.Ask.{Select, Delta, Rank, Predecessor, Successor, Binsearch, asked};
+ghost use Rattle.elias_fano.specs.Ask.{Select, Delta, Rank, Predecessor, Successor, Binsearch, Question, asked};
 ghost use Rattle.ffi.specs.Answers.{ef_answer};
 ghost use Rattle.ffi.specs.Many.{Answering, many_if, many_of};
 
@@ -36,22 +36,43 @@ pub fn answer_each<F: Fn(u64) -> EfAnswer>(answer: F, args: &[u64], out: &mut [u
     count
 }
 
-// The values with these numbers.
-#[unsafe(no_mangle)]
-pub extern "C" fn ef_selects(words: &[u64], ks: &[u64], out: &mut [u64]) -> EfAnswer
-    ensures { (result ≡ ef_answer (many_of words.now Select ks.now out.old).answer) × (out.new ≡ (many_of words.now Select ks.now out.old).words) }
+// The answers to all questions of an image, which is opened once.
+fn answer_all<F: Fn(&Image, u64) -> EfAnswer>(
+    answer: F,
+    words: &[u64],
+    args: &[u64],
+    out: &mut [u64],
+) -> EfAnswer
+    requires { F.IsAlwaysCallable answer }
+    ensures { (q : ℕ → Question) → ((i : _) (x : ℕ) (r : EfAnswer) → F.post answer i x r → r ≡ ef_answer (asked i.now.words.now (q x))) → (result ≡ ef_answer (many_of words.now q args.now out.old).answer) × (out.new ≡ (many_of words.now q args.now out.old).words) }
 {
     match Image::open(words) {
         Ok(image) => answer_each(
-            |x: u64|
-                ensures { result ≡ ef_answer (asked image.entry.words.now (Select x)) }
-            { select_opened(&image, x as usize).tell() },
-            ks,
+            |x: u64| -> EfAnswer
+                requires { F.IsAlwaysCallable answer }
+                ensures { (y : Answer) → ((i : _) → i.now ≡ image.entry → F.post answer i x result → result ≡ ef_answer y) → result ≡ ef_answer y }
+            { answer(&image, x) },
+            args,
             &mut *out,
         )
         .tell(),
         Err(e) => Err::<u64, Refusal>(e).tell(),
     }
+}
+
+// The values with these numbers.
+#[unsafe(no_mangle)]
+pub extern "C" fn ef_selects(words: &[u64], ks: &[u64], out: &mut [u64]) -> EfAnswer
+    ensures { (result ≡ ef_answer (many_of words.now Select ks.now out.old).answer) × (out.new ≡ (many_of words.now Select ks.now out.old).words) }
+{
+    answer_all(
+        |image: &Image, x: u64|
+            ensures { result ≡ ef_answer (asked image.now.words.now (Select x)) }
+        { select_opened(image, x as usize).tell() },
+        words,
+        ks,
+        &mut *out,
+    )
 }
 
 // The values with these numbers, each less the one before it.
@@ -59,17 +80,14 @@ pub extern "C" fn ef_selects(words: &[u64], ks: &[u64], out: &mut [u64]) -> EfAn
 pub extern "C" fn ef_deltas(words: &[u64], ks: &[u64], out: &mut [u64]) -> EfAnswer
     ensures { (result ≡ ef_answer (many_of words.now Delta ks.now out.old).answer) × (out.new ≡ (many_of words.now Delta ks.now out.old).words) }
 {
-    match Image::open(words) {
-        Ok(image) => answer_each(
-            |x: u64|
-                ensures { result ≡ ef_answer (asked image.entry.words.now (Delta x)) }
-            { delta_opened(&image, x as usize).tell() },
-            ks,
-            &mut *out,
-        )
-        .tell(),
-        Err(e) => Err::<u64, Refusal>(e).tell(),
-    }
+    answer_all(
+        |image: &Image, x: u64|
+            ensures { result ≡ ef_answer (asked image.now.words.now (Delta x)) }
+        { delta_opened(image, x as usize).tell() },
+        words,
+        ks,
+        &mut *out,
+    )
 }
 
 // How many values are below each of these.
@@ -77,17 +95,14 @@ pub extern "C" fn ef_deltas(words: &[u64], ks: &[u64], out: &mut [u64]) -> EfAns
 pub extern "C" fn ef_ranks(words: &[u64], vals: &[u64], out: &mut [u64]) -> EfAnswer
     ensures { (result ≡ ef_answer (many_of words.now Rank vals.now out.old).answer) × (out.new ≡ (many_of words.now Rank vals.now out.old).words) }
 {
-    match Image::open(words) {
-        Ok(image) => answer_each(
-            |x: u64|
-                ensures { result ≡ ef_answer (asked image.entry.words.now (Rank x)) }
-            { rank_opened(&image, x).tell() },
-            vals,
-            &mut *out,
-        )
-        .tell(),
-        Err(e) => Err::<u64, Refusal>(e).tell(),
-    }
+    answer_all(
+        |image: &Image, x: u64|
+            ensures { result ≡ ef_answer (asked image.now.words.now (Rank x)) }
+        { rank_opened(image, x).tell() },
+        words,
+        vals,
+        &mut *out,
+    )
 }
 
 // The greatest value at or below each of these.
@@ -95,17 +110,14 @@ pub extern "C" fn ef_ranks(words: &[u64], vals: &[u64], out: &mut [u64]) -> EfAn
 pub extern "C" fn ef_predecessors(words: &[u64], vals: &[u64], out: &mut [u64]) -> EfAnswer
     ensures { (result ≡ ef_answer (many_of words.now Predecessor vals.now out.old).answer) × (out.new ≡ (many_of words.now Predecessor vals.now out.old).words) }
 {
-    match Image::open(words) {
-        Ok(image) => answer_each(
-            |x: u64|
-                ensures { result ≡ ef_answer (asked image.entry.words.now (Predecessor x)) }
-            { predecessor_opened(&image, x).tell() },
-            vals,
-            &mut *out,
-        )
-        .tell(),
-        Err(e) => Err::<u64, Refusal>(e).tell(),
-    }
+    answer_all(
+        |image: &Image, x: u64|
+            ensures { result ≡ ef_answer (asked image.now.words.now (Predecessor x)) }
+        { predecessor_opened(image, x).tell() },
+        words,
+        vals,
+        &mut *out,
+    )
 }
 
 // The smallest value at or above each of these.
@@ -113,17 +125,14 @@ pub extern "C" fn ef_predecessors(words: &[u64], vals: &[u64], out: &mut [u64]) 
 pub extern "C" fn ef_successors(words: &[u64], vals: &[u64], out: &mut [u64]) -> EfAnswer
     ensures { (result ≡ ef_answer (many_of words.now Successor vals.now out.old).answer) × (out.new ≡ (many_of words.now Successor vals.now out.old).words) }
 {
-    match Image::open(words) {
-        Ok(image) => answer_each(
-            |x: u64|
-                ensures { result ≡ ef_answer (asked image.entry.words.now (Successor x)) }
-            { successor_opened(&image, x).tell() },
-            vals,
-            &mut *out,
-        )
-        .tell(),
-        Err(e) => Err::<u64, Refusal>(e).tell(),
-    }
+    answer_all(
+        |image: &Image, x: u64|
+            ensures { result ≡ ef_answer (asked image.now.words.now (Successor x)) }
+        { successor_opened(image, x).tell() },
+        words,
+        vals,
+        &mut *out,
+    )
 }
 
 // The number of a value that is each of these.
@@ -131,15 +140,12 @@ pub extern "C" fn ef_successors(words: &[u64], vals: &[u64], out: &mut [u64]) ->
 pub extern "C" fn ef_binsearches(words: &[u64], vals: &[u64], out: &mut [u64]) -> EfAnswer
     ensures { (result ≡ ef_answer (many_of words.now Binsearch vals.now out.old).answer) × (out.new ≡ (many_of words.now Binsearch vals.now out.old).words) }
 {
-    match Image::open(words) {
-        Ok(image) => answer_each(
-            |x: u64|
-                ensures { result ≡ ef_answer (asked image.entry.words.now (Binsearch x)) }
-            { binsearch_opened(&image, x).tell() },
-            vals,
-            &mut *out,
-        )
-        .tell(),
-        Err(e) => Err::<u64, Refusal>(e).tell(),
-    }
+    answer_all(
+        |image: &Image, x: u64|
+            ensures { result ≡ ef_answer (asked image.now.words.now (Binsearch x)) }
+        { binsearch_opened(image, x).tell() },
+        words,
+        vals,
+        &mut *out,
+    )
 }

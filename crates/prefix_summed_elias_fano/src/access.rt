@@ -10,7 +10,7 @@ use errors::Refusal;
 pub fn access(image: &[u64], pos: usize) -> Result<Option<u64>, Refusal>
     ensures { of_optional result ≡ access_of image.now pos }
 {
-    if image.len() == 0 {
+    if image.is_empty() {
         return Ok(None);
     }
     delta(image, pos)
@@ -20,7 +20,7 @@ pub fn access(image: &[u64], pos: usize) -> Result<Option<u64>, Refusal>
 pub fn len(image: &[u64]) -> Result<usize, Refusal>
     ensures { of_result result ≡ len_of image.now }
 {
-    if image.len() == 0 {
+    if image.is_empty() {
         return Ok(0);
     }
     elias_fano_queries::header::len(image)

@@ -173,7 +173,7 @@ fn test(items: &[u64], len: usize) -> Result<Job, Refusal>
 pub fn from_slice(items: &[u64], buffer: &mut [u64]) -> Result<usize, Refusal>
     ensures { leaves (of_result result) buffer.new ≡ from_slice_of items.now buffer.old }
 {
-    if items.len() == 0 {
+    if items.is_empty() {
         return Ok(0);
     }
     let j = test(items, buffer.len())?;

@@ -23,7 +23,7 @@ pub struct ItemWalk {
     pub values: Walk,
 }
 
-// The parts of an image, and a walk over it.
+// The parts of an image, and a walk over it. (No opened image: a walk over no words has none.)
 #[derive(Clone, Copy)]
 pub struct ItemPlace {
     pub parts: Parts,
@@ -85,7 +85,7 @@ fn begin_none(k: usize) -> ItemPlace
 pub fn start_items(image: &[u64], k: usize) -> Result<ItemPlace, Refusal>
     ensures { StartsItems image.now k result }
 {
-    if image.len() == 0 {
+    if image.is_empty() {
         return Ok(begin_none(k));
     }
     let image = Image::open(image)?;

@@ -3,7 +3,7 @@ ghost use Rattle.std.specs.Prelude.{◌≡◌};
 ghost use Rattle.errors.specs.Answer.{leaves, of_result};
 ghost use Rattle.sarray.specs.Build.{sparse_from_bits};
 
-use bit_words::is_invalid;
+use bit_words::checked;
 use darray_positions::scan::count_positions;
 use elias_fano_from_bits::build::from_ones;
 use errors::Refusal;
@@ -18,9 +18,7 @@ pub fn from_bits(
 ) -> Result<usize, Refusal>
     ensures { leaves (of_result result) buffer.new ≡ sparse_from_bits words.now len rank buffer.old }
 {
-    if is_invalid(words, len) {
-        return Err(Refusal::InvalidBits);
-    }
+    checked(words, len)?;
     let n = count_positions(words, len, true);
     if n == 0 {
         return Ok(0);

@@ -27,7 +27,7 @@ fn is_whole(p: Parts, len: usize, rank: bool) -> bool
 pub fn open(image: &[u64], len: usize, rank: bool) -> Result<SArray, Refusal>
     ensures { of_vector result ≡ sparse_open len rank image.now }
 {
-    if image.len() == 0 {
+    if image.is_empty() {
         return Ok(SArray {
             num_bits: len,
             num_ones: 0,

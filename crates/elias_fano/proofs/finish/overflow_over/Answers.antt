@@ -3,8 +3,8 @@
 use Rattle.elias_fano.proofs.Measuring as measuring
 use Rattle.elias_fano.proofs.finish.overflow_over.Goals as goal
 
-pub returns-in-Ok : goal.returns-in-Ok
-returns-in-Ok c = measuring.overflow_is c.args.over_one c.args.words.now c.args.len _ c.measure.ensures c.in-Ok.s c.in-Ok.is
+pub unwrap-requires : goal.unwrap-requires
+unwrap-requires c = measuring.measured c.args.over_one c.args.words.now c.args.len _ c.measure.ensures c.requires
 
-pub returns-in-Err : goal.returns-in-Err
-returns-in-Err c = absurd (measuring.not_refused c.args.over_one c.args.words.now c.args.len _ c.measure.ensures _ c.in-Err.is c.requires)
+pub returns : goal.returns
+returns c = measuring.overflow_is c.args.over_one c.args.words.now c.args.len _ c.measure.ensures c.unwrap.result c.unwrap.ensures
