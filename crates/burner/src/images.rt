@@ -81,7 +81,7 @@ fn list(rt: &HostRuntime, file: ImageFile, out: &mut Output) -> Result<(), Failu
     burner_questions::list::answer(file, from, count, out)
 }
 
-// A file that does not give its words.
+// A file that does not give its words: no `From`, since the sentence has the path.
 fn not_loaded(path: &[u8], e: LoadError) -> Failure {
     match e {
         LoadError::Missing => say::unusable(path, b" is not there"),
@@ -94,7 +94,7 @@ fn not_loaded(path: &[u8], e: LoadError) -> Failure {
     }
 }
 
-// A command over the image that the argument 2 names.
+// A command over the image that the argument 2 names: one of four, so the last arm is `winters`, and one for the others would be dead.
 pub fn answer(
     rt: &HostRuntime,
     command: Command,

@@ -41,7 +41,7 @@ impl Command {
         COMMANDS.get(line::place_in(&NAMES, name)).copied()
     }
 
-    // Which argument is the first of its numbers; all after it are numbers too.
+    // Which argument is the first of its numbers; all after it are numbers too. No `From`: the specs name `first_number_of`.
     pub fn first_number(self) -> Option<usize>
         ensures { result ≡ first_number_of self }
     {

@@ -12,7 +12,7 @@ use word_files::say::Failure;
 struct Line {
     space: [u8; 64],
     len: usize,
-    // Whether there were more bytes than fit.
+    // Whether there were more bytes than fit; an `Option` of `len` would be a match at each use.
     long: bool,
     ghost within: { len ≤ 64 },
 }

@@ -23,37 +23,27 @@ impl From<Failure> for AskError {
 
 // A question that has one answer, of the record or of the prefix sums.
 fn replied(name: &[u8], r: Arguments, image: &[u64]) -> Option<Reply> {
-    match console_questions::answer(name, r, image) {
-        Some(reply) => Some(reply),
-        None => console_sums::answer(name, r, image),
-    }
+    console_questions::answer(name, r, image).or_else(|| console_sums::answer(name, r, image))
 }
 
 // The answer's line.
 fn gather(text: &[u8], image: &[u64], out: &mut Output) {
     let end = line::word_end(text, 0);
     let name = &text[..end];
-    if line::same(name, b"windows") {
-        return out.reply_line(windows::answer(text, end, image));
-    }
     let numbers = line::numbers(text, end);
-    if line::same(name, b"walk") {
-        return Listing::Walk.answer(numbers, image, out);
+    match name {
+        b"windows" => out.reply_line(windows::answer(text, end, image)),
+        b"walk" => Listing::Walk.answer(numbers, image, out),
+        b"read" => Listing::Read.answer(numbers, image, out),
+        b"sums_walk" => console_sums::list(numbers, image, out),
+        _ => {
+            let reply = numbers.and_then(|r| replied(name, r, image));
+            out.reply_line(reply.unwrap_or(Reply::Bad));
+        }
     }
-    if line::same(name, b"read") {
-        return Listing::Read.answer(numbers, image, out);
-    }
-    if line::same(name, b"sums_walk") {
-        return console_sums::list(numbers, image, out);
-    }
-    let reply = match numbers {
-        Some(r) => replied(name, r, image),
-        None => None,
-    };
-    out.reply_line(reply.unwrap_or(Reply::Bad));
 }
 
-// The answer goes out, but for `bad command`. Its first byte tells which it is. A list has digits, spaces and `none` only, so a long one, of which a part has gone out,
+// The answer goes out, but for `bad command`. Its first byte tells which it is, since the clauses of the lists (`line_of`) have the line alone. A list has digits, spaces and `none` only, so a long one, of which a part has gone out,
 // is told by it too.
 pub fn answer(text: &[u8], image: &[u64], out: &mut Output) -> Result<(), AskError> {
     gather(text, image, out);

@@ -30,10 +30,7 @@ impl<'a> ImageFile<'a> {
     }
 
     fn open(self) -> Result<Image<'a>, Failure> {
-        match Image::open(self.words) {
-            Ok(image) => Ok(image),
-            Err(_) => Err(self.refused()),
-        }
+        Image::open(self.words).map_err(|_| self.refused())
     }
 
     // `check`: whether it is an image.

@@ -92,7 +92,7 @@ impl Bits {
         line::first(&self.words, self.lent)
     }
 
-    // `bits LEN W..`: a length, and no more words than there are.
+    // `bits LEN W..`: a length, and no more words than there are. The line and `end` are those that the clause of `store` names.
     pub fn set(&mut self, text: &[u8], end: usize) -> Reply
         requires { end ≤ length text.now }
     {
@@ -138,6 +138,7 @@ impl Bits {
         if !change.fits(r) {
             return Some(Reply::Bad);
         }
+        // `min`: with a ghost field that bounds `lent`, which was tried, no part of `words` could be lent here.
         let lent = self.lent.min(4096);
         let len = self.len;
         let after = altered(change, r, &mut self.words[..lent], len);

@@ -88,36 +88,18 @@ impl Console {
         let len = self.bits.len;
         let buffer = &mut self.buffer;
         let record = &mut self.record;
-        let reply = console_sarray::alter(name, r, words, len, buffer, record, &mut self.sparse);
-        if reply.is_some() {
-            return reply;
-        }
-        let reply = console_sums::bits::answer(name, r, words, len, buffer, record);
-        if reply.is_some() {
-            return reply;
-        }
-        console_record::answer(name, r, buffer, record)
+        console_sarray::alter(name, r, words, len, buffer, record, &mut self.sparse)
+            .or_else(|| console_sums::bits::answer(name, r, words, len, buffer, record))
+            .or_else(|| console_record::answer(name, r, buffer, record))
     }
 
     // A command that takes a few numbers: the sections are tried in turn.
     fn numbered(&mut self, name: &[u8], r: Arguments) -> Option<Reply> {
-        let reply = words::answer(name, r);
-        if reply.is_some() {
-            return reply;
-        }
-        let reply = self.bits.ask(name, r);
-        if reply.is_some() {
-            return reply;
-        }
-        let reply = self.bits.alter(name, r);
-        if reply.is_some() {
-            return reply;
-        }
-        let reply = self.asked(name, r);
-        if reply.is_some() {
-            return reply;
-        }
-        self.altered(name, r)
+        words::answer(name, r)
+            .or_else(|| self.bits.ask(name, r))
+            .or_else(|| self.bits.alter(name, r))
+            .or_else(|| self.asked(name, r))
+            .or_else(|| self.altered(name, r))
     }
 
     // Answers a line, but for an empty one and one that begins with '#'.

@@ -13,7 +13,7 @@ use command::Console;
 use console_text::line;
 use std::io::Read;
 
-// A line as it gathers: how many bytes there are, and whether there were more than fit.
+// A line as it gathers: how many bytes there are, and whether there were more than fit, a flag: as an `Option` of the count it would be a match at each use.
 #[derive(Drop)]
 struct Line {
     text: [u8; 65536],

@@ -51,7 +51,7 @@ fn step_at(line: &[u8], at: usize) -> Option<(Step, usize)>
     }
 }
 
-// Whether steps alone follow the word that ends at `end`.
+// Whether steps alone follow the word that ends at `end`. Here and below the loop goes by the place: a step is one word or two, so a walk over words is no plainer.
 fn all_steps(line: &[u8], end: usize) -> bool {
     let mut at = end;
     while at < line.len() {
@@ -99,7 +99,7 @@ fn start_of(line: &[u8], end: usize) -> Option<(u64, usize)>
     number_at(line, end).filter(|p| all_steps(line, p.1))
 }
 
-// The whole command, of which `end` is the end of the first word.
+// The whole command, of which `end` is the end of the first word: the pair that the clauses of `numbers` and `store` name.
 pub fn answer(line: &[u8], end: usize, words: &[u64], len: usize, out: &mut Output)
     requires { end ≤ length line.now }
 {

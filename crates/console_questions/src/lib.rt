@@ -37,7 +37,7 @@ pub enum Command {
 }
 
 impl Command {
-    // One test after another: of a match over these names the check does not prove the arms of long names.
+    // One test after another: a match on byte strings was tried, and its default arm for other names of twelve bytes did not prove.
     pub fn named(name: &[u8]) -> Option<Command>
         ensures { result ≡ command_named name.now }
     {
@@ -92,6 +92,7 @@ impl Command {
         }
     }
 
+    // No `From`, here and in `shown`: each arm is another call, over the image.
     fn asked(self, r: Arguments, image: &[u64]) -> Reply
         ensures { says_of result ≡ answers (asked_of self r image.now) }
     {

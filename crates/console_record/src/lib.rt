@@ -66,7 +66,7 @@ impl Command {
         }
     }
 
-    // What is held is set or written into.
+    // What is held is set or written into; no `From`, since each arm is another call.
     fn done(self, r: Arguments, buffer: &mut [u64], s: &mut Record) -> Reply
         ensures { turn (says_of result) s.new buffer.new ≡ done_of self r s.old buffer.old }
     {

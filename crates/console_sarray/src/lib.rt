@@ -46,7 +46,7 @@ pub enum Query {
 }
 
 impl Query {
-    // One test after another: of a match over these names the check does not prove the arms of long names.
+    // One test after another: a match on byte strings was tried, and four arms and five default arms of it did not prove.
     pub fn named(name: &[u8]) -> Option<Query>
         ensures { result ≡ query_named name.now }
     {
@@ -68,6 +68,7 @@ impl Query {
         None
     }
 
+    // No `From`: each arm is another call, over the image.
     fn asked(self, pos: usize, image: &[u64], v: Sparse) -> Reply
         ensures { says_of result ≡ answers (sparse_query v.len v.rank image.now (question_of self pos)) }
     {
@@ -161,7 +162,7 @@ pub enum Command {
 }
 
 impl Command {
-    // One test after another: of a match over these names the check does not prove the arms of long names.
+    // One test after another: a match on byte strings was tried, and the arm of the long name and a default arm of it did not prove.
     pub fn named(name: &[u8]) -> Option<Command>
         ensures { result ≡ command_named name.now }
     {

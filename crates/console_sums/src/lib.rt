@@ -11,7 +11,7 @@ pub mod bits;
 pub mod build;
 mod walk;
 
-use console_text::line::{Arguments, same};
+use console_text::line::Arguments;
 use console_text::output::{Output, Reply};
 use console_text::reply::ToReply;
 use prefix_summed_elias_fano::access;
@@ -24,17 +24,14 @@ pub enum Command {
 }
 
 impl Command {
-    // One test after another: of a match over these names the check does not prove the arms of long names.
     pub fn named(name: &[u8]) -> Option<Command>
         ensures { result ≡ command_named name.now }
     {
-        if same(name, b"sums_len") {
-            return Some(Command::Len);
+        match name {
+            b"sums_len" => Some(Command::Len),
+            b"sums_access" => Some(Command::Access),
+            _ => None,
         }
-        if same(name, b"sums_access") {
-            return Some(Command::Access);
-        }
-        None
     }
 
     // How many numbers it takes.
@@ -47,6 +44,7 @@ impl Command {
         }
     }
 
+    // No `From`: each arm is another call, over the image.
     fn asked(self, r: Arguments, image: &[u64]) -> Reply
         ensures { says_of result ≡ answers (asked_of self r image.now) }
     {

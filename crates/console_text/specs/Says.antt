@@ -1,8 +1,7 @@
 -- What a line of output says. Assumes nothing.
-use Rattle.std.specs.Prelude.{Option, Some, None, Result, Ok, Err}
+use Rattle.std.specs.Prelude.{Option, Some, None}
 use Rattle.errors.specs.Answer.{Answer, value, none, done, refused}
 use Rattle.errors.specs.Refusal.{number_of}
-use Rattle.errors.specs.declared.Refusal.{Refusal}
 use Rattle.console_text.specs.declared.output.Reply.{Reply}
 use Rattle.console_text.specs.declared.output.Reply.TheVariants as reply
 
@@ -23,13 +22,3 @@ says_of reply.Bad = bad
 abbrev pub says_if : Option Reply → Says
 says_if (Some r) = says_of r
 says_if None = unknown
-
--- ---- the answer that a call gives, where f says what a value of it is
-
-abbrev pub answer_if : {T : Type 0} → (T → Answer) → Option T → Answer
-answer_if f (Some x) = f x
-answer_if f None = none
-
-abbrev pub answer_or : {T : Type 0} → (T → Answer) → Result T Refusal → Answer
-answer_or f (Ok x) = f x
-answer_or f (Err e) = refused (number_of e)

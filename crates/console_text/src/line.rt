@@ -4,7 +4,7 @@ ghost use Rattle.std.proofs.lemmas.List.Edits.{sets};
 ghost use Rattle.decimal.specs.Decimal.{parse_of};
 ghost use Rattle.console_text.specs.Line.{up_to, words_in, same_text, place_among, fields, if_at, numbers_from, or_zero, values_of};
 
-// The words after a command as numbers: how many there are, and the first four.
+// The words after a command as numbers: how many there are, and the first four. `numbers_from` and each section's specs name these fields.
 #[derive(Clone, Copy, Debug, PartialEq, Eq)]
 pub struct Arguments {
     pub n: usize,
@@ -43,7 +43,7 @@ pub fn same(a: &[u8], b: &[u8]) -> bool
 }
 
 // Here and below the words are walked by `word_end`: `split` makes a word of an empty text, and these lists have none there.
-// Which word of the list the name is, counted from 0, or how many words the list has.
+// Which word of the list the name is, counted from 0, or how many words the list has: so `place_among` has it, which `named` of the burner's commands promises.
 pub fn place_in(list: &[u8], name: &[u8]) -> usize
     ensures { result ≡ place_among (words_in list.now) name.now }
 {
@@ -60,13 +60,14 @@ pub fn place_in(list: &[u8], name: &[u8]) -> usize
     k
 }
 
+// As `if_at` of the specs, by which `numbers` is proved.
 fn if_at(n: usize, k: usize, x: u64, other: u64) -> u64
     ensures { result ≡ if_at n k x other }
 {
     if n == k { x } else { other }
 }
 
-// The words after the one that ends at `end`. None: one of them is no number.
+// The words after the one that ends at `end`. None: one of them is no number. The clauses of `numbers` and `store` name the line and `end`, and so do their callers'.
 pub fn numbers(line: &[u8], end: usize) -> Option<Arguments>
     ensures { result ≡ numbers_from 0 0 0 0 0 (fields (drop end line.now)) }
 {
@@ -95,7 +96,7 @@ fn value(text: &[u8]) -> u64
     decimal::parse(text).unwrap_or(0)
 }
 
-// A word past the end is dropped.
+// A word past the end is dropped. `get_mut` was tried, and its two arms did not prove.
 fn put(words: &mut [u64], i: usize, x: u64)
     ensures { words.new ≡ set words.old i x }
 {

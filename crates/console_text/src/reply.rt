@@ -1,7 +1,7 @@
 // What a call gives, as the answer to a command.
 ghost use Rattle.std.specs.Prelude.{◌≡◌};
-ghost use Rattle.errors.specs.Answer.{Answer, value, done, flag};
-ghost use Rattle.console_text.specs.Says.{answers, says_of, answer_if, answer_or};
+ghost use Rattle.errors.specs.Answer.{Answer, value, done, flag, answer_if, answer_or};
+ghost use Rattle.console_text.specs.Says.{answers, says_of};
 
 use crate::output::Reply;
 use errors::Refusal;

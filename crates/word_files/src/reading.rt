@@ -7,7 +7,7 @@ use crate::bytes::unpack;
 use std::fs::File;
 use std::io::{Error, Read};
 
-// Reads until the buffer is full or the file ends, and answers how many bytes it read.
+// Reads until the buffer is full or the file ends, and answers how many bytes it read: the library's `read_to_end` needs the heap.
 fn fill(file: &mut File, buf: &mut [u8]) -> Result<usize, Error>
     ensures { IfOk result (λ n. n ≤ length buf.old) }
 {
@@ -44,6 +44,7 @@ fn load_some(file: &mut File, buf: &mut [u8], words: &mut [u64]) -> Result<usize
     words_of(&buf[..n], words)
 }
 
+// Until the file ends, which the last `load_some` alone tells: no `for` has its number of turns.
 fn load_all(file: &mut File, buf: &mut [u8], words: &mut [u64]) -> Result<usize, LoadError>
     ensures { Within (length words.old) result }
 {
