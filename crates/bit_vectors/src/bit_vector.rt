@@ -101,6 +101,7 @@ fn select_over(
     }
 }
 
+// Both names are the Rust's, over one function.
 pub fn select1(words: &[u64], len: usize, k: usize) -> Result<Option<usize>, Refusal>
     ensures { of_optional result ≡ select_bit_of words.now len true k }
 {

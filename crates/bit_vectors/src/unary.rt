@@ -89,7 +89,7 @@ pub fn skip_zeros(words: &[u64], first: usize, used: usize) -> usize
     used
 }
 
-// A word, and of it the bits that are still ahead of a walk.
+// A word, and of it the bits that are still ahead of a walk. (No `Unary`: it has no length and no start.)
 #[derive(Clone, Copy)]
 struct Left {
     at: usize,
@@ -194,6 +194,7 @@ fn skip_over(words: &[u64], len: usize, w: Unary, over_one: bool, k: usize) -> S
     stop(words, len, place)
 }
 
+// Both names are the Rust's, over one function.
 pub fn skip1(words: &[u64], len: usize, w: Unary, k: usize) -> Stepped
     ensures { of_stepped result ≡ skip1_of words.now len w k }
 {

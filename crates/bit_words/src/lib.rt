@@ -56,7 +56,7 @@ fn over(w: u64, over_one: bool) -> u64
     if over_one { w } else { !w }
 }
 
-// The same of the word i.
+// The same of the word i. (`over_one` is a flag, here and above, as `bit_over` of the contracts has it.)
 pub fn word_over(words: &[u64], i: usize, over_one: bool) -> u64
     requires { i < length words.now }
     ensures { result ≡ word_over over_one (get_or words.now i 0) }
@@ -123,7 +123,7 @@ pub fn rank_words(words: &[u64], pos: usize) -> usize
     r + popcount(words[whole] << (WORD_LEN - left))
 }
 
-// A word, and how many ones of it stand before the one that was looked for.
+// A word, and how many ones of it stand before the one that was looked for. (In `darray_positions` a cursor counts those before the word.)
 #[derive(Clone, Copy)]
 pub struct Spot {
     pub word: usize,
@@ -177,7 +177,8 @@ pub fn find_from(words: &[u64], used: usize, over_one: bool, from: usize, k: usi
     Some(spot.word * WORD_LEN + select_in_word_within(bits, spot.left))
 }
 
-// The same where there is such a one or zero, as a place, but the place's own word does not have it: word by word.
+// The same where there is such a one or zero, as a place, but the place's own word does not have it: word by word. (A step of the one below, and not its
+// twin: what each knows of where the one stands is another thing.)
 fn find_by_words(words: &[u64], used: usize, over_one: bool, from: usize, k: usize) -> usize
     requires { Findable words.now used from × (count (bit_over over_one words.now) from + k < count (bit_over over_one words.now) (used * 64)) × (count (bit_over over_one words.now) ((from / 64 + 1) * 64) ≤ count (bit_over over_one words.now) from + k) }
     ensures { select (bit_over over_one words.now) (used * 64) (count (bit_over over_one words.now) from + k) ≡ Some result }

@@ -112,7 +112,7 @@ fn bit_position(x: u64) -> usize
     DEBRUIJN64_MAPPING[(wrapping_mul(DEBRUIJN64, x) >> 58) as usize] as usize
 }
 
-// The place of the lowest one.
+// The place of the lowest one. (By the table and not by `trailing_zeros`: document 01 has it so.)
 pub fn lsb(x: u64) -> Option<usize>
     ensures { result ≡ select (bit x) 64 0 }
 {

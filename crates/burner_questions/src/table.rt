@@ -133,7 +133,7 @@ fn rows(seconds: &[u64], words: &[u64], n: usize, out: &mut Output) -> Result<()
 
 // The spans between 1,000 seconds at most.
 pub fn answer(file: ImageFile, seconds: &[u64], out: &mut Output) -> Result<(), Failure> {
-    let mut words = [0u64; 4000];
+    let mut words = [0u64; 4000]; // no heap
     match compare(file.words, seconds, &mut words) {
         Ok(n) => rows(seconds, &words, n.min(999), out),
         Err(_) => Err(file.refused()),

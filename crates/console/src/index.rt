@@ -49,7 +49,7 @@ fn shown(s: Sizes, index: &[u64], out: &mut Output) {
 
 // Bits of 4,096 words have an index of fewer than 8,192.
 fn built(s: Sizes, words: &[u64], len: usize, over_one: bool, out: &mut Output) {
-    let mut index = [0u64; 8192];
+    let mut index = [0u64; 8192]; // no heap
     match inner::build(words, len, over_one, &mut index) {
         Ok(_) => shown(s, &index, out),
         Err(r) => out.reply_line(Reply::Refused(r)),
@@ -69,6 +69,6 @@ pub fn select(words: &[u64], len: usize, b: u64, k: usize) -> Reply {
     if 1 < b {
         return Reply::Bad;
     }
-    let mut index = [0u64; 8192];
+    let mut index = [0u64; 8192]; // no heap
     darray::select_built(words, len, b == 1, &mut index, k).reply()
 }

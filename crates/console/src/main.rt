@@ -53,7 +53,7 @@ impl Line {
         self.long = false;
     }
 
-    // Answers the lines that are whole.
+    // Answers the lines that are whole. (By `while`: a turn goes on after the line feed that it has found.)
     fn eat(&mut self, input: &[u8], console: &mut Console) {
         let mut at: usize = 0;
         while at < input.len() {
@@ -67,7 +67,7 @@ impl Line {
     }
 }
 
-// How many bytes standard input has given, or 0 at its end. An input that fails is at its end.
+// How many bytes standard input has given, or 0 at its end. An input that fails is at its end. (0 and no Option: std's `read` gives it so.)
 fn read_once(rt: &HostRuntime, input: &mut [u8]) -> usize
     ensures { result ≤ length input.new }
 {

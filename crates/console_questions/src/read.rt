@@ -34,6 +34,6 @@ pub fn answer(image: &[u64], k: usize, count: usize, out: &mut Output)
     requires { count ≤ 4096 }
     ensures { held out.new ≡ read_of image.now k count (held out.old) }
 {
-    let mut words = [0u64; 4096];
+    let mut words = [0u64; 4096]; // no heap
     into(image, k, &mut words[..count], out);
 }

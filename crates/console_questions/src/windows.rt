@@ -40,7 +40,7 @@ pub fn answer(text: &[u8], end: usize, image: &[u64]) -> Reply
 {
     match line::numbers(text, end) {
         Some(r) if fits(r) => {
-            let mut numbers = [0u64; 4098];
+            let mut numbers = [0u64; 4098]; // no heap
             stored(text, end, r.n, &mut numbers, image)
         }
         _ => Reply::Bad,

@@ -18,7 +18,7 @@ use console_text::reply::ToReply;
 use sarray::build::from_bits;
 use sarray::queries;
 
-// What is held besides the image.
+// What is held besides the image. (The choice is a flag, as `sparse_query` takes it.)
 #[derive(Clone, Copy, Debug, PartialEq, Eq)]
 pub struct Sparse {
     pub len: usize,

@@ -26,7 +26,7 @@ impl<'a> Lent for Sums<'a> {
     }
 }
 
-// Of the n numbers after the word that ends at `end`, by way of `items`.
+// Of the n numbers after the word that ends at `end`, by way of `items`: a slice that `store` handed back would say no more.
 fn stored(
     text: &[u8],
     end: usize,
@@ -49,7 +49,7 @@ pub fn answer(text: &[u8], end: usize, buffer: &mut [u64], s: &mut Record) -> Re
 {
     match line::numbers(text, end) {
         Some(r) if r.n <= 32768 => {
-            let mut items = [0u64; 32768];
+            let mut items = [0u64; 32768]; // no heap
             stored(text, end, r.n, &mut items, buffer, s)
         }
         _ => Reply::Bad,

@@ -14,7 +14,7 @@ pub struct Arguments {
     pub d: u64,
 }
 
-// The first place from `from` on that holds the byte, or the end.
+// The first place from `from` on that holds the byte, or the end. (The end is no none: its clauses say so, and each caller goes on there.)
 pub fn find(text: &[u8], from: usize, b: u8) -> usize
     requires { from ≤ length text.now }
     ensures lower_bound { from ≤ result }
@@ -25,7 +25,7 @@ pub fn find(text: &[u8], from: usize, b: u8) -> usize
     from + rest.iter().position(|x| *x == b).unwrap_or(rest.len())
 }
 
-// Where the word that starts at `from` ends.
+// Where the word that starts at `from` ends. (One call of the above, named for what the sections ask.)
 pub fn word_end(line: &[u8], from: usize) -> usize
     requires { from ≤ length line.now }
     ensures lower_bound { from ≤ result }

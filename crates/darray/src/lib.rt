@@ -18,7 +18,7 @@ pub mod select;
 use bit_vectors::bit_vector;
 use errors::Refusal;
 
-// The bit at pos.
+// The bit at pos. (Under the name that the Rust's `DArray` has it by.)
 pub fn access(words: &[u64], len: usize, pos: usize) -> Result<Option<bool>, Refusal>
     ensures { of_bit result ≡ access_of words.now len pos }
 {
@@ -39,7 +39,7 @@ pub fn select1(
     select::select(words, len, true, index, positions, k)
 }
 
-// The zero that k zeros stand before, by the index over the zeros.
+// The zero that k zeros stand before, by the index over the zeros. (A name for each, as the Rust has them, over one function.)
 pub fn select0(
     words: &[u64],
     len: usize,

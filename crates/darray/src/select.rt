@@ -9,7 +9,7 @@ ghost use Rattle.darray.specs.Select.{Indexed, entry_of};
 use bit_words::{find_within, words_for};
 use darray_positions::scan::{BLOCK_LEN, SUBBLOCK_LEN};
 
-// A block's entry: its first position, or where its overflow positions begin.
+// A block's entry: its first position, or where its overflow positions begin. (Two places, so no Option: `entry_of` names the cases.)
 #[derive(Clone, Copy)]
 pub enum Entry {
     First(usize),

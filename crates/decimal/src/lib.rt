@@ -24,6 +24,7 @@ pub fn parse(text: &[u8]) -> Result<u64, ParseError>
 }
 
 // Writes the digits of x, with no leading zero, from `at` on, and gives the place after the last. None: they do not fit, and nothing is written.
+// (No Display: `write_of` says of each byte of `out` what it is.)
 pub fn write(x: u64, out: &mut [u8], at: usize) -> Option<usize>
     ensures { left result out.new ≡ write_of x out.old at }
 {

@@ -53,7 +53,8 @@ pub fn new(universe: u64, num_vals: u64, buffer: &mut [u64]) -> Result<Builder, 
     })
 }
 
-// Files one value more, which must not be below the last (document 01: a reading).
+// Files one value more, which must not be below the last (document 01: a reading). (The builder and its words are apart, here and
+// below: either may be handed in damaged, and 7 is decided by both.)
 pub fn push(b: Builder, val: u64, buffer: &mut [u64]) -> Result<Builder, Refusal>
     ensures { of_pushed b result buffer.new ≡ push_of b val buffer.old }
 {
@@ -67,6 +68,7 @@ pub fn push(b: Builder, val: u64, buffer: &mut [u64]) -> Result<Builder, Refusal
 }
 
 // Makes an image of the words (document 01: a finish), with an index over the zeros for `rank`, if they hold nothing but the values that were pushed.
+// (`rank` is a flag: the choice of a finish.)
 pub fn build(b: Builder, rank: bool, buffer: &mut [u64]) -> Result<usize, Refusal>
     ensures { of_built b result buffer.new ≡ build_of b rank buffer.old }
 {

@@ -28,7 +28,7 @@ pub struct Parts {
     pub low_at: usize,
     pub ones_at: usize,
     pub zeros_at: usize,
-    // Last, since a copy of what follows it would part words in two.
+    // A flag, as `parts_of` has it. Last, since a copy of what follows it would part words in two.
     pub rank: bool,
 }
 
@@ -193,6 +193,7 @@ fn has_indexes(image: &[u64], p: Parts) -> bool
 }
 
 // Decides whether an image is one that some run writes and, with `strict`, repeats no value, in time linear in its words, and tells where its parts stand.
+// (`strict` is a flag, as the definition `open_if` has it.)
 pub fn open_if(image: &[u64], strict: bool) -> Result<Parts, Refusal>
     ensures { of_opened result ≡ open_if strict image.now }
 {
@@ -208,7 +209,7 @@ pub fn open_if(image: &[u64], strict: bool) -> Result<Parts, Refusal>
     Ok(p)
 }
 
-// The same of a record, which may repeat values (document 01: opening).
+// The same of a record, which may repeat values (document 01: opening). (One call of the above, for the name that document 01 and docs/ have.)
 pub fn open(image: &[u64]) -> Result<Parts, Refusal>
     ensures { of_opened result ≡ open_of image.now }
 {

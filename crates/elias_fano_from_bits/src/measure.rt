@@ -11,7 +11,7 @@ ghost use Rattle.elias_fano_from_bits.specs.Building.{Countable, low_of, positio
 use bit_words::{WORD_LEN, count_words, find_within, words_for};
 use darray_positions::scan::{BLOCK_LEN, block_size, spilled, tail_positions};
 
-// A place of the source, and how many ones stand before it.
+// A place of the source, and how many ones stand before it. (A cursor of `darray_positions` is at a word, and this at a bit.)
 #[derive(Clone, Copy)]
 pub struct Mark {
     pub place: usize,

@@ -62,7 +62,7 @@ fn built(b: Builder, p: Result<usize, Refusal>) -> Turn
     }
 }
 
-// One call of a list.
+// One call of a list. (Its kind is a number: a list of calls is words, and `call_of` reads them.)
 fn call(b: Builder, kind: u64, arg: u64, buffer: &mut [u64]) -> Turn
     ensures { made (of_reply result.reply) result.builder buffer.new ≡ step_of b buffer.old (call_of kind arg) }
 {
@@ -83,6 +83,7 @@ fn is_last(r: Reply) -> bool
     }
 }
 
+// The words of a reply, as `kind_of` and `value_of` of the specs have them.
 fn kind_of(r: Reply) -> u64
     ensures { result ≡ kind_of (of_reply r) }
 {

@@ -79,7 +79,7 @@ fn walk_back(image: &Image, val: u64, end: usize) -> usize
     0
 }
 
-// The same by halving, between the ends of the bucket.
+// The same by halving, between the ends of the bucket. (By `while`: either end moves, and no index is counted.)
 fn halve_bucket(image: &Image, val: u64, first: usize, end: usize) -> usize
     requires { (first ≡ below (val / 2 ^ image.now.parts.low_len * 2 ^ image.now.parts.low_len) (times image.now.words.now)) × (end ≡ below ((val / 2 ^ image.now.parts.low_len + 1) * 2 ^ image.now.parts.low_len) (times image.now.words.now)) }
     ensures { result ≡ below val (times image.now.words.now) }

@@ -62,7 +62,8 @@ fn halve_high(
     halve_high(high, len, index, positions, wanted, from, to)
 }
 
-// How many ones stand right before the place: 64 if there are as many, or if the place is below 64.
+// How many ones stand right before the place: 64 if there are as many, or if the place is below 64. (A number and no Option: who asks compares it with a
+// number of ones, and 64 is more than that.)
 fn ones_before(words: &[u64], place: usize) -> usize
     requires { place ≤ length words.now * 64 }
     ensures { result < 64 → OnesBefore (bit_over true words.now) place result }

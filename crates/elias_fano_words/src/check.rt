@@ -30,6 +30,7 @@ fn clear_from(words: &[u64], pos: usize) -> bool
 }
 
 // The 64 bits from pos on. Where no word follows that of pos, it is read again: only bits past the last are wrong then.
+// (`window` of `bit_words` gives 0 for these, and tests for that.)
 pub fn bits_at(words: &[u64], pos: usize) -> u64
     requires { pos < length words.now * 64 }
     ensures { (n : ℕ) → n ≤ 64 → pos + n ≤ length words.now * 64 → result % 2 ^ n ≡ word 1 (λ i. bit_at words.now (pos + i)) n }

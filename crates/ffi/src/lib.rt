@@ -1,5 +1,5 @@
 // The record for C and Rust: a static library, thin over `elias_fano` and the crates of its questions, of the record from bits, of the prefix
-// sums and of the sparse bit vector. ffi/elias_fano.h says it in C, with who owns which words.
+// sums and of the sparse bit vector. ffi/elias_fano.h says it in C, with who owns which words. Slices, flags and structs are as C hands them in.
 //
 // Here a record is written and opened; `ask` has one question a call, `many` as many as an array holds, `sums` the prefix sums, `sparse` the sparse
 // bit vector.
@@ -24,7 +24,7 @@ use elias_fano::{builder, image};
 use elias_fano_from_bits::build::from_bits;
 use errors::Refusal;
 
-// How far a record is written.
+// How far a record is written. (A struct of its own beside `Builder`: C lays it out so, as the two below.)
 #[repr(C)]
 #[derive(Clone, Copy)]
 pub struct EfBuilder {
@@ -172,7 +172,7 @@ pub extern "C" fn ef_from_bits(
     from_bits(words, len, rank, &mut *buffer).tell()
 }
 
-// Decides whether an image is one that some run writes: 0, or the refusal's number.
+// Decides whether an image is one that some run writes: 0, or the refusal's number, as C has it.
 #[unsafe(no_mangle)]
 pub extern "C" fn ef_open(words: &[u64]) -> u64
     ensures { result ≡ ef_opened (open_of words.now) }

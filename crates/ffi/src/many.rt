@@ -1,4 +1,5 @@
 // Questions by the many: the image is opened once a call; each question then costs what it costs of an opened image.
+// C has no closures, so each question is an exported function of its own, which is one call.
 ghost use Rattle.std.specs.Prelude.{◌≡◌, true, ◌∷◌, ◌++◌, ◌+◌, ◌*◌, ◌<◌, ℕ, length, take as take_list, drop};
 ghost use Rattle.errors.specs.Answer.{Answer, value, leaves};
 ghost use Rattle.elias_fano.specs.Ask.{Select, Delta, Rank, Predecessor, Successor, Binsearch, Question, asked};

@@ -31,7 +31,7 @@ pub extern "C" fn ef_sarray_from_bits(
     from_bits(words, len, rank, &mut *buffer).tell()
 }
 
-// Decides whether an image is one of a vector of so many bits with such a choice: 0, or the refusal's number.
+// Decides whether an image is one of a vector of so many bits with such a choice: 0, or the refusal's number, as C has it.
 #[unsafe(no_mangle)]
 pub extern "C" fn ef_sarray_open(image: &[u64], len: usize, rank: bool) -> u64
     ensures { result ≡ ef_sparse (sparse_open len rank image.now) }

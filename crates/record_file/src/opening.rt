@@ -65,7 +65,7 @@ fn stop(file: &[u8], e: SeenError) -> Failure {
     }
 }
 
-// Whether there is no file of this name.
+// Whether there is no file of this name. (A bool: a file that cannot be opened for another reason is there.)
 fn is_free(rt: &HostRuntime, name: &[u8]) -> bool {
     match files::open_update(rt, name) {
         Ok(_) => false,

@@ -9,7 +9,7 @@ use elias_fano_from_bits::build::from_ones;
 use errors::Refusal;
 
 // Writes the image of the vector of so many bits to the front of the buffer, and leaves its later words. The answer is how many words it has: none for
-// zeros, of which nothing is written.
+// zeros, of which nothing is written. (Another function than that of `elias_fano_from_bits`, which refuses zeros.)
 pub fn from_bits(
     words: &[u64],
     len: usize,

@@ -7,6 +7,7 @@ use elias_fano::image::{Parts, no_parts, open_if};
 use errors::Refusal;
 
 // A vector as opening finds it: its length, how many ones it has, the parts of its image, which one of zeros does not have, and its choice.
+// (The choice is a flag, as `sparse_open` has it.)
 #[derive(Clone, Copy)]
 pub struct SArray {
     pub num_bits: usize,

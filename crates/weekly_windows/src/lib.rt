@@ -44,9 +44,9 @@ fn count_within(image: &Image, from: Walk, e: u64, windows: &[u64]) -> usize
     requires { WalkOver image.now.words.now image.now.parts from × (are_windows windows.now ≡ true) }
     ensures { result ≡ count_in windows.now 0 e (drop from.number (times image.now.words.now)) }
 {
-    let mut at = [0u64; 65];
+    let mut at = [0u64; 65]; // no heap
     let n = put_in_order(windows, &mut at);
-    let mut first = [0usize; 148];
+    let mut first = [0usize; 148]; // no heap
     part_starts(&at, n, &mut first);
     let cuts = Cuts {
         at: &at,

@@ -5,7 +5,7 @@ use crate::names::Name;
 use std::fs::File;
 use std::io::{Error, Write};
 
-// What became of the file that stood there.
+// What became of the file that stood there. (Both are good, so no Result; a bool would need these two words beside it.)
 #[derive(Clone, Copy, PartialEq, Eq)]
 enum Old {
     Kept,
