@@ -120,20 +120,21 @@ fn perform(first: Builder, calls: &[u64], buffer: &mut [u64], answers: &mut [u64
 {
     file(&mut *answers, 0, Reply::Done);
     let mut b = first;
-    let mut count: usize = 1;
-    let mut i: usize = 0;
-    while 2 <= calls.len() - i {
-        let s = call(b, calls[i], calls[i + 1], &mut *buffer);
+    for k in 0..calls.len() / 2 {
+        let s = call(b, calls[2 * k], calls[2 * k + 1], &mut *buffer);
         b = s.builder;
-        let reply = s.reply;
-        file(&mut *answers, count, reply);
-        count += 1;
-        i += 2;
-        if is_last(reply) {
-            return Ended { builder: b, count };
+        file(&mut *answers, k + 1, s.reply);
+        if is_last(s.reply) {
+            return Ended {
+                builder: b,
+                count: k + 2,
+            };
         }
     }
-    Ended { builder: b, count }
+    Ended {
+        builder: b,
+        count: calls.len() / 2 + 1,
+    }
 }
 
 // Begins a record and performs a list of calls on it, two words to a call. Each answer is filed, two words to an answer.
