@@ -11,7 +11,7 @@ ghost use Rattle.elias_fano_from_bits.specs.FromBits.{ones_of, bits_image, ones_
 
 use crate::measure::overflow_of;
 use bit_vectors::unary::{Unary, next_within, walk_from};
-use bit_words::{fill, is_invalid};
+use bit_words::{checked, fill};
 use darray_positions::scan::count_positions;
 use elias_fano::builder::{Builder, file};
 use elias_fano::finish::write_image;
@@ -172,9 +172,7 @@ pub fn from_bits(
 ) -> Result<usize, Refusal>
     ensures { leaves (of_result result) buffer.new ≡ from_bits_of words.now len rank buffer.old }
 {
-    if is_invalid(words, len) {
-        return Err(Refusal::InvalidBits);
-    }
+    checked(words, len)?;
     if len == 0 {
         return Err(Refusal::NoBits);
     }
