@@ -1,16 +1,14 @@
 -- Laws of columns: a byte again and again, and how many digits a number has. Assumes nothing.
 use mathlib.Core.Path.{◌≡◌, refl, sym, ap, ◌∙◌}
-use mathlib.Core.Bool.{Bool, true, false, cond}
 use mathlib.Core.List.{List}
-use Prim.Native.Nat.{ℕ, zero, suc, ◌+◌, ◌/◌, ◌≤◌}
+use Prim.Native.Nat.{ℕ, suc, ◌+◌, ◌≤◌}
 use native.Mathlib.Nat.{zero-add}
 use native.Mathlib.Omega.{arith}
 use lib.ListN.{length, replicate}
-use lib.Dec.{ltb}
 use Rattle.decimal.specs.Decimal.{num_digits, Left, left, write_of}
 use Rattle.std.specs.Prelude.{Option}
 use Rattle.std.specs.Option.{unwrap_or}
-use Rattle.decimal.proofs.Writing.{write_some}
+use Rattle.decimal.proofs.Writing.{places_few, write_some}
 use Rattle.console_text.specs.Gathered.{Gathered, with_byte, with_text}
 
 module _ (g : Gathered) (b n : ℕ) where
@@ -21,15 +19,6 @@ module _ (g : Gathered) (b n : ℕ) where
   pub again_done : n ≤ 0 → with_text g (replicate n b) ≡ g
   unfolding with_text
   again_done h = let e : n ≡ 0 = omega arith in rw e
-
-places_few_by : (f x : ℕ) (t : Bool) → num_digits f (x / 10) ≤ suc f → cond t 1 (suc (num_digits f (x / 10))) ≤ suc (suc f)
-places_few_by f x true h = omega arith
-places_few_by f x false h = omega arith
-
-places_few : (f x : ℕ) → num_digits f x ≤ suc f
-unfolding num_digits
-places_few zero x = omega arith
-places_few (suc f) x = places_few_by f x (ltb x 10) (places_few f (x / 10))
 
 -- where a write of x to the front of 20 bytes ends
 pub digits_written : (x : ℕ) (l o : List ℕ) (w : Option ℕ) → 20 ≤ length l → left w o ≡ write_of x l 0 → unwrap_or w 20 ≡ num_digits 19 x

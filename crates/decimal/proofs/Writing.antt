@@ -39,7 +39,7 @@ places_few_by : (f x : ℕ) (t : Bool) → num_digits f (x / 10) ≤ suc f → c
 places_few_by f x true h = omega arith
 places_few_by f x false h = omega arith
 
-places_few : (f x : ℕ) → num_digits f x ≤ suc f
+pub places_few : (f x : ℕ) → num_digits f x ≤ suc f
 unfolding num_digits
 places_few zero x = omega arith
 places_few (suc f) x = places_few_by f x (ltb x 10) (places_few f (x / 10))
