@@ -1,9 +1,11 @@
 pub mod Bytes
+pub mod ByteTable
 pub mod Compare
 pub mod Count
 pub mod Fields
 pub mod Find
 pub mod Lowest
+pub mod PlaceTable
 pub mod Spread
 pub mod Table
 pub mod Threshold

@@ -6,7 +6,7 @@
 ghost use Rattle.std.specs.Prelude.{◌≡◌, ℕ, ◌*◌, ◌%◌, ◌^◌, ◌<◌, leb, Some, unwrap_or};
 ghost use Rattle.broadword.specs.Bits.{bit, ones};
 ghost use Rattle.broadword.specs.Fields.{digit, word, flag, LowBytes};
-ghost use Rattle.broadword.specs.Places.{last, select};
+ghost use Rattle.broadword.specs.Places.{last, select, SelectInByte, Debruijn64};
 
 mod tables;
 
@@ -73,6 +73,13 @@ pub fn popcount(x: u64) -> usize
     u64::count_ones(x) as usize
 }
 
+// The table by which `select_in_word` finds a place in a byte.
+pub fn select_in_byte_table() -> [u8; 2048]
+    ensures { SelectInByte result }
+{
+    SELECT_IN_BYTE
+}
+
 // The place in the byte b of the one that r ones stand before, and 8 where there is none.
 fn select_in_byte(b: usize, r: usize) -> usize
     requires { (b < 256) × (r < 8) }
@@ -102,6 +109,13 @@ pub fn select_in_word(x: u64, k: usize) -> Option<usize>
         return None;
     }
     Some(select_in_word_within(x, k))
+}
+
+// The table by which `lsb` finds the place of a bit.
+pub fn debruijn64_table() -> [u8; 64]
+    ensures { Debruijn64 result }
+{
+    DEBRUIJN64_MAPPING
 }
 
 // The place of the one bit of x that is set: each power of two shifts another six bits of DEBRUIJN64 to its top.
