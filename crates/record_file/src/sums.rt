@@ -2,13 +2,14 @@
 ghost use Rattle.std.specs.Prelude.{◌≡◌, [], ◌∷◌};
 ghost use Rattle.record_file.specs.Sum.{sum_with, sum_from, sum_of};
 
+use broadword::wrapping_mul;
 use elias_fano::builder::Builder;
 
 // The sum with a word more.
 fn sum_with(c: u64, w: u64) -> u64
     ensures { result ≡ sum_with c w }
 {
-    c.wrapping_mul(1099511628211).wrapping_add(w)
+    wrapping_mul(c, 1099511628211).wrapping_add(w)
 }
 
 fn sum_from(c: u64, words: &[u64]) -> u64

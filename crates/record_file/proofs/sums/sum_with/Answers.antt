@@ -4,4 +4,4 @@ use Rattle.std.proofs.Common.{refl}
 use Rattle.record_file.proofs.sums.sum_with.Goals as goal
 
 pub returns : goal.returns
-returns c = sum_with_is c.args.c c.args.w _ _ refl refl
+returns c = sum_with_is c.args.c c.args.w c.wrapping_mul.result _ c.wrapping_mul.ensures refl
