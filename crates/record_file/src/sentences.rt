@@ -1,5 +1,7 @@
 // What is said of a record, on standard error.
 ghost use Rattle.std.specs.Prelude.{◌≡◌};
+ghost use Rattle.console_text.specs.Gathered.{emptied};
+ghost use Rattle.console_text.specs.Held.{held};
 
 use console_text::output::Output;
 use elias_fano::builder::Builder;
@@ -7,8 +9,10 @@ use errors::Refusal;
 use word_files::say;
 use word_files::say::Failure;
 
-// What has gathered goes out.
-pub fn send(out: &mut Output) {
+// What has gathered goes out, and the next sentence begins anew.
+pub fn send(out: &mut Output)
+    ensures { held out.new ≡ emptied (held out.old) }
+{
     say::gathered(out.gathered());
     out.clear();
 }
