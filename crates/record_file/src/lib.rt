@@ -10,9 +10,8 @@ ghost use Rattle.record_file.specs.Stored.{head_of, builder_of, StartLen, StartI
 
 use elias_fano::builder::{Builder, resume};
 use elias_fano_words::sizes::{MAX_VALS, of_record};
-use std::io::{Error, ErrorKind};
 use sums::sum;
-use word_files::LoadError;
+use word_files::{LoadError, NotSaved};
 
 pub mod opening;
 pub mod sentences;
@@ -64,13 +63,13 @@ fn head(b: Builder, words: &[u64]) -> [u64; 5]
 }
 
 // Saves the record: the builder and the words of its start, with which the lent ones begin.
-pub fn keep(rt: &HostRuntime, path: &[u8], b: Builder, words: &[u64]) -> Result<(), Error> {
+pub fn keep(rt: &HostRuntime, path: &[u8], b: Builder, words: &[u64]) -> Result<(), NotSaved> {
     match start_of(b) {
         Some(n) if n <= words.len() => {
             let start = &words[..n];
             word_files::save(rt, path, &head(b, start), start)
         }
-        _ => Err(Error::from(ErrorKind::InvalidInput)),
+        _ => Err(NotSaved),
     }
 }
 

@@ -11,7 +11,7 @@ mod reading;
 mod saving;
 pub mod say;
 
-use std::io::{Error, ErrorKind};
+use std::io::Error;
 
 // Why a file does not give its words.
 #[derive(Clone, Copy, Debug, PartialEq, Eq)]
@@ -30,6 +30,16 @@ pub enum LoadError {
 impl From<Error> for LoadError {
     fn from(_e: Error) -> LoadError {
         LoadError::Unreadable
+    }
+}
+
+// A file that is not saved. Why is not told: who asked for it says that it cannot be written.
+#[derive(Clone, Copy, Debug, PartialEq, Eq)]
+pub struct NotSaved;
+
+impl From<Error> for NotSaved {
+    fn from(_e: Error) -> NotSaved {
+        NotSaved
     }
 }
 
@@ -53,10 +63,11 @@ pub fn load(rt: &HostRuntime, path: &[u8], words: &mut [u64]) -> Result<usize, L
 }
 
 // The head and then the words become the file. On an error the file that stood there stands there still, unless only the directory could not be synced.
-pub fn save(rt: &HostRuntime, path: &[u8], head: &[u64], words: &[u64]) -> Result<(), Error> {
+pub fn save(rt: &HostRuntime, path: &[u8], head: &[u64], words: &[u64]) -> Result<(), NotSaved> {
     if !names::fits(path, 4) {
-        return Err(Error::from(ErrorKind::InvalidInput));
+        return Err(NotSaved);
     }
     let dir = names::open_directory(rt, path)?;
-    saving::save_in(rt, &dir, path, head, words)
+    saving::save_in(rt, &dir, path, head, words)?;
+    Ok(())
 }
