@@ -30,14 +30,13 @@ fn replied(name: &[u8], r: Arguments, image: &[u64]) -> Option<Reply> {
 fn gather(text: &[u8], image: &[u64], out: &mut Output) {
     let end = line::word_end(text, 0);
     let name = &text[..end];
-    let numbers = line::numbers(text, end);
     match name {
         b"windows" => out.reply_line(windows::answer(text, end, image)),
-        b"walk" => Listing::Walk.answer(numbers, image, out),
-        b"read" => Listing::Read.answer(numbers, image, out),
-        b"sums_walk" => console_sums::list(numbers, image, out),
+        b"walk" => Listing::Walk.answer(line::numbers(text, end), image, out),
+        b"read" => Listing::Read.answer(line::numbers(text, end), image, out),
+        b"sums_walk" => console_sums::list(line::numbers(text, end), image, out),
         _ => {
-            let reply = numbers.and_then(|r| replied(name, r, image));
+            let reply = line::numbers(text, end).and_then(|r| replied(name, r, image));
             out.reply_line(reply.unwrap_or(Reply::Bad));
         }
     }

@@ -102,15 +102,14 @@ impl Console {
             .or_else(|| self.altered(name, r))
     }
 
-    // Answers a line, but for an empty one and one that begins with '#'.
+    // Answers a line, but for an empty one and one that begins with '#'. A command that reads its words by itself is not read twice.
     pub fn answer(&mut self, text: &[u8]) {
         if text.is_empty() || text[0] == b'#' {
             return;
         }
         let end = line::word_end(text, 0);
         let name = &text[..end];
-        let r = line::numbers(text, end);
-        let bare = r.is_some_and(|r| r.n == 0);
+        let bare = end == text.len();
         match Command::named(name) {
             Some(Command::Bits) => {
                 let reply = self.bits.set(text, end);
@@ -119,7 +118,7 @@ impl Console {
             Some(Command::Unary) => {
                 walk::answer(text, end, self.bits.words(), self.bits.len, &mut self.out);
             }
-            Some(Command::Index) => match r {
+            Some(Command::Index) => match line::numbers(text, end) {
                 Some(r) if r.n == 1 && r.a < 2 => {
                     index::answer(r.a == 1, self.bits.words(), self.bits.len, &mut self.out);
                 }
@@ -130,17 +129,17 @@ impl Console {
             Some(Command::Builder) if bare => show::builder(self.record, &mut self.out),
             Some(Command::Dump | Command::Words | Command::Builder) => self.bad(),
             Some(Command::Walk) => Listing::Walk.answer(
-                r,
+                line::numbers(text, end),
                 line::first(&self.buffer, self.record.image),
                 &mut self.out,
             ),
             Some(Command::Read) => Listing::Read.answer(
-                r,
+                line::numbers(text, end),
                 line::first(&self.buffer, self.record.image),
                 &mut self.out,
             ),
             Some(Command::SumsWalk) => console_sums::list(
-                r,
+                line::numbers(text, end),
                 line::first(&self.buffer, self.record.image),
                 &mut self.out,
             ),
@@ -158,6 +157,7 @@ impl Console {
                 self.out.reply_line(reply);
             }
             None => {
+                let r = line::numbers(text, end);
                 let reply = r.and_then(|r| self.numbered(name, r)).unwrap_or(Reply::Bad);
                 self.out.reply_line(reply);
             }
