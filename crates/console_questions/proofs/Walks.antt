@@ -8,8 +8,8 @@ use lib.Dec.{ltb}
 use lib.ListN.{length}
 use borrow.Author.Tests.{ltb-false, le-ltb}
 use Rattle.errors.specs.Answer.{Answer, none, refused}
-use Rattle.elias_fano.proofs.Answers.{refused_by_lem}
-use Rattle.elias_fano.specs.Accept.{times, accepted, parts_of, unopened, open_of}
+use Rattle.elias_fano.specs.Accept.{times, accepted, parts, parts_of, unopened, open_of}
+use Rattle.elias_fano.specs.declared.image.Parts.{Parts}
 use Rattle.elias_fano.specs.Ask.{Next, nth, ask, query}
 use Rattle.elias_fano_walk.specs.Walking.{value_step_of}
 use Rattle.console_text.specs.Gathered.{Gathered, with_byte, with_refusal, with_answer}
@@ -92,8 +92,10 @@ module _ (T : List ℕ) (g : Gathered) (k : ℕ) where
         ∙ sym (ap₂ (λ (h : Gathered) (m : ℕ). with_each h (nexts_from T m d)) e at)
 
 -- an image that is refused
+pub refused_by_lem : (g : Gathered) (b : Bool) (x : ℕ) (p : Parts) (other : Gathered) → unopened x ≡ cond b (parts p) (unopened 7) → with_refusal g x ≡ cond b other (with_refusal g 7)
+refused_by_lem g true x p other e = let z : ◌≡◌ {A = ℕ} 0 1 = cc in absurd (omega arith)
+refused_by_lem g false x p other e = let d : x ≡ 7 = cc in ap (with_refusal g) d
+
 pub walk_refused : (i : List ℕ) (k count : ℕ) (g : Gathered) (x : ℕ) → unopened x ≡ open_of i → with_refusal g x ≡ walk_of i k count g
 unfolding open_of walk_of
-walk_refused i k count g x e =
-    let h = refused_by_lem (accepted i) x (parts_of i) e in
-    ap (with_refusal g) h.1 ∙ sym (ap (λ (b : Bool). cond b (with_answers g (nexts_of i k 0 count)) (with_refusal g 7)) h.0)
+walk_refused i k count g x e = refused_by_lem g (accepted i) x (parts_of i) (with_answers g (nexts_of i k 0 count)) e

@@ -9,7 +9,7 @@ ghost use Rattle.console_questions.specs.Questions.{command_named, fits_of, aske
 pub mod ask;
 mod read;
 pub mod steps;
-mod walk;
+pub mod walk;
 pub mod windows;
 
 use console_text::line::{Arguments, same};
