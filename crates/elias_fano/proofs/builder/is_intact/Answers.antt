@@ -1,6 +1,6 @@
 -- `elias_fano::builder::is_intact` meets its contract.
 -- Assumes nothing.
-use mathlib.Core.Path.{◌∙◌}
+use Rattle.std.proofs.Common.{rules, ◌∙◌}
 use Rattle.elias_fano.proofs.Testing as testing
 use Rattle.elias_fano.proofs.builder.is_intact.Goals as goal
 
@@ -17,4 +17,4 @@ pub check-last-requires : goal.check-last-requires
 check-last-requires c = testing.checkable _ c.args.words.now _ c.requires
 
 pub returns : goal.returns
-returns c = c.eq.ensures ∙ testing.decided _ c.args.words.now _ c.requires _ c.check-last.ensures
+returns c = search rules ∙ testing.decided _ c.args.words.now _ c.requires _ c.check-last.ensures

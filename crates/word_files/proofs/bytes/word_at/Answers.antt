@@ -1,5 +1,5 @@
 -- `word_files::bytes::word_at` meets its contract. Assumes nothing.
-use Rattle.std.proofs.Common.{◌≡◌, ◌-◌, length, take, drop, arith, ap, ◌∙◌}
+use Rattle.std.proofs.Common.{rules, ◌≡◌, ◌-◌, length, take, drop, arith, ap, ◌∙◌}
 use Rattle.std.proofs.lemmas.List.{length-drop, length-take-le}
 use Rattle.std.proofs.lemmas.Option.{MatchOption-at_some}
 use lib.Seq.{take_all}
@@ -15,4 +15,4 @@ returns c =
     let same : take (length bs - c.args.at) rest ≡ rest = take_all _ rest (omega (arith, n)) in
     let e = MatchOption-at_some _ _ c.unwrap.result c.unwrap.ensures c.first_chunk.ensures.cases in
     let f : c.unwrap.result.now ≡ take 8 rest = e.same ∙ ap (take 8) same in
-    c.from_le_bytes.ensures ∙ eight_bytes _ (ap length f ∙ length-take-le 8 rest (omega (arith, n))) ∙ ap number f
+    search rules ∙ eight_bytes c.unwrap.result.now (ap length f ∙ length-take-le 8 rest (omega (arith, n))) ∙ ap number f
