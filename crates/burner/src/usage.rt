@@ -1,5 +1,5 @@
 // What the program says of its commands.
-ghost use Rattle.std.specs.Prelude.{◌≡◌};
+ghost use Rattle.std.specs.Prelude.{◌≡◌, IfErr};
 ghost use Rattle.console_text.specs.Line.{place_among, words_in};
 ghost use Rattle.burner.specs.Usage.{names, command_at, first_number_of, fits_of};
 
@@ -129,7 +129,9 @@ impl Command {
     }
 
     // The argument i as a choice.
-    pub fn choice(self, rt: &HostRuntime, out: &mut Output, i: usize) -> Result<bool, Failure> {
+    pub fn choice(self, rt: &HostRuntime, out: &mut Output, i: usize) -> Result<bool, Failure>
+        ensures { IfErr result (λ f. f ≡ Failure.Unusable) }
+    {
         match arguments::number(rt, i) {
             Some(0) => Ok(false),
             Some(1) => Ok(true),

@@ -17,9 +17,9 @@ pub fn send(out: &mut Output)
     out.clear();
 }
 
-// `burner: WHAT (refused N)`
+// `burner: WHAT (refused N)`, of which nothing is left.
 pub fn refused(out: &mut Output, what: &[u8], e: Refusal) -> Failure
-    ensures { result ≡ Failure.Refused }
+    ensures { (result ≡ Failure.Refused) × ((held out.new).at ≡ 0) }
 {
     out.text(b"burner: ");
     out.text(what);
@@ -32,13 +32,15 @@ pub fn refused(out: &mut Output, what: &[u8], e: Refusal) -> Failure
 
 // A record that may not be, by its count.
 pub fn no_record(out: &mut Output, e: Refusal) -> Failure
-    ensures { result ≡ Failure.Refused }
+    ensures { (result ≡ Failure.Refused) × ((held out.new).at ≡ 0) }
 {
     refused(out, b"there is no such record", e)
 }
 
-// How many times a record holds, and the last.
-pub fn holds(file: &[u8], b: Builder, out: &mut Output) {
+// How many times a record holds, and the last; nothing of it is left.
+pub fn holds(file: &[u8], b: Builder, out: &mut Output)
+    ensures { (held out.old).at ≡ 0 → (held out.new).at ≡ 0 }
+{
     if b.num_pushed == 0 {
         say::of_file(file, b" holds no start yet");
         return;
