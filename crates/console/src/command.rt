@@ -102,14 +102,14 @@ impl Console {
             .or_else(|| self.altered(name, r))
     }
 
-    // Answers a line, but for an empty one and one that begins with '#'. A command that reads its words by itself is not read twice.
+    // Answers a line, but for an empty one and one that begins with '#'. `bits`, `unary`, `sums` and `windows` read their words by themselves.
     pub fn answer(&mut self, text: &[u8]) {
         if text.is_empty() || text[0] == b'#' {
             return;
         }
         let end = line::word_end(text, 0);
         let name = &text[..end];
-        let bare = end == text.len();
+        let bare = end == text.len(); // nothing follows the name
         match Command::named(name) {
             Some(Command::Bits) => {
                 let reply = self.bits.set(text, end);

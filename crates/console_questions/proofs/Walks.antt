@@ -8,6 +8,7 @@ use lib.Dec.{ltb}
 use lib.ListN.{length}
 use borrow.Author.Tests.{ltb-false, le-ltb}
 use Rattle.errors.specs.Answer.{Answer, none, refused}
+use Rattle.elias_fano.proofs.Answers as answers
 use Rattle.elias_fano.specs.Accept.{times, accepted, parts, parts_of, unopened, open_of}
 use Rattle.elias_fano.specs.declared.image.Parts.{Parts}
 use Rattle.elias_fano.specs.Ask.{Next, nth, ask, query}
@@ -93,8 +94,9 @@ module _ (T : List ℕ) (g : Gathered) (k : ℕ) where
 
 -- an image that is refused
 pub refused_by_lem : (g : Gathered) (b : Bool) (x : ℕ) (p : Parts) (other : Gathered) → unopened x ≡ cond b (parts p) (unopened 7) → with_refusal g x ≡ cond b other (with_refusal g 7)
-refused_by_lem g true x p other e = let z : ◌≡◌ {A = ℕ} 0 1 = cc in absurd (omega arith)
-refused_by_lem g false x p other e = let d : x ≡ 7 = cc in ap (with_refusal g) d
+refused_by_lem g b x p other e =
+    let h = answers.refused_by_lem b x p e in
+    ap (with_refusal g) h.1 ∙ sym (ap (λ (a : Bool). cond a other (with_refusal g 7)) h.0)
 
 pub walk_refused : (i : List ℕ) (k count : ℕ) (g : Gathered) (x : ℕ) → unopened x ≡ open_of i → with_refusal g x ≡ walk_of i k count g
 unfolding open_of walk_of
