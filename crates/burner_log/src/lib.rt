@@ -42,7 +42,9 @@ pub fn log(
 ) -> Result<(), Failure> {
     test_settings(settings, words.len(), out)?;
     let record = opening::to_log(rt, file, settings, &mut *words, out)?;
-    if record.num_pushed == 0 && record_file::keep(rt, file, record, &*words).is_err() {
+    if record.num_pushed == 0
+        && record_file::keep_dropping_error(rt, file, record, &*words).is_err()
+    {
         return Err(say::unusable(file, b" cannot be written"));
     }
     Log::begin(rt, file, record, every, words, out).run()
@@ -57,7 +59,7 @@ fn write_image(
     out: &mut Output,
 ) -> Result<(), Failure> {
     let made = words.get(..n).ok_or(Failure::Refused)?;
-    if word_files::save(rt, image, &[], made).is_err() {
+    if word_files::save_dropping_error(rt, image, &[], made).is_err() {
         return Err(say::unusable(image, b" cannot be written"));
     }
     out.text(b"ok ");

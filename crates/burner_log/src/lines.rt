@@ -91,7 +91,13 @@ impl<'a, 'b> Log<'a, 'b> {
 
     // Saves the record, and counts anew. What has gathered goes out before a failure is told.
     fn save(&mut self) -> Result<(), Failure> {
-        if record_file::keep(self.rt, self.file, self.record, &*self.words).is_err() {
+        if record_file::keep_dropping_error(
+            self.rt,
+            self.file,
+            self.record,
+            &*self.words,
+        ).is_err()
+        {
             self.out.flush();
             return Err(say::unusable(self.file, b" cannot be written"));
         }

@@ -28,6 +28,10 @@ pub record Right (b : Builder) (check : ℕ) (ws : List ℕ) : Type 0 where
 abbrev pub StartLen : Builder → ℕ → Type 0
 StartLen b k = (0 < b.num_vals) × (b.num_vals ≤ 16777216) × (k ≡ start_len b.universe b.num_vals)
 
+-- a builder's settings are in range, and there are as many words as its start has, or more
+abbrev pub HasStart : Builder → List ℕ → Type 0
+HasStart b ws = (0 < b.num_vals) × (b.num_vals ≤ 16777216) × (start_len b.universe b.num_vals ≤ length ws)
+
 abbrev pub StartIs : Builder → Option ℕ → Type 0
 StartIs b (Some k) = StartLen b k
 StartIs b None = 0 < b.num_vals → b.num_vals ≤ 16777216 → ⊥

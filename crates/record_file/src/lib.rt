@@ -6,10 +6,11 @@ ghost use Rattle.errors.specs.Answer.{done};
 ghost use Rattle.elias_fano.specs.Steps.{resume_test};
 ghost use Rattle.record_file.specs.Sum.{sum_of};
 ghost use Rattle.darray.specs.Pending.{Decides};
-ghost use Rattle.record_file.specs.Stored.{head_of, builder_of, StartLen, StartIs, Right, Restores};
+ghost use Rattle.record_file.specs.Stored.{head_of, builder_of, StartLen, StartIs, HasStart, Right, Restores};
 
 use elias_fano::builder::{Builder, resume};
 use elias_fano_words::sizes::{MAX_VALS, of_record};
+use std::io::{Error, ErrorKind};
 use sums::sum;
 use word_files::{LoadError, NotSaved};
 
@@ -63,11 +64,31 @@ fn head(b: Builder, words: &[u64]) -> [u64; 5]
 }
 
 // Saves the record: the builder and the words of its start, with which the lent ones begin.
-pub fn keep(rt: &HostRuntime, path: &[u8], b: Builder, words: &[u64]) -> Result<(), NotSaved> {
+pub fn keep(rt: &HostRuntime, path: &[u8], b: Builder, words: &[u64]) -> Result<(), Error>
+    ensures { IfOk result (λ _. HasStart b words.now) }
+{
     match start_of(b) {
         Some(n) if n <= words.len() => {
             let start = &words[..n];
             word_files::save(rt, path, &head(b, start), start)
+        }
+        _ => Err(Error::from(ErrorKind::InvalidInput)),
+    }
+}
+
+// `keep`, without the system's error, over `save_dropping_error`.
+pub fn keep_dropping_error(
+    rt: &HostRuntime,
+    path: &[u8],
+    b: Builder,
+    words: &[u64],
+) -> Result<(), NotSaved>
+    ensures { IfOk result (λ _. HasStart b words.now) }
+{
+    match start_of(b) {
+        Some(n) if n <= words.len() => {
+            let start = &words[..n];
+            word_files::save_dropping_error(rt, path, &head(b, start), start)
         }
         _ => Err(NotSaved),
     }
@@ -129,4 +150,40 @@ pub fn restore(rt: &HostRuntime, path: &[u8], words: &mut [u64]) -> Result<Build
 {
     let n = word_files::load(rt, path, &mut *words)?;
     taken(words, n)
+}
+
+#[cfg(test)]
+mod tests {
+    use super::*;
+    use elias_fano::builder::{new, push};
+    use std::test::Fail;
+    use word_files::files::unlink;
+
+    // What is kept is restored. A record that is not kept is told by the error's kind, and by `NotSaved`.
+    #[test]
+    fn keeps(rt: HostRuntime) -> Result<(), Fail> {
+        let path = b"kept";
+        let mut words = [0; 16];
+        let b = new(100, 4, &mut words)?;
+        keep_dropping_error(&rt, path, b, &words)?;
+        let b = push(b, 60, &mut words)?;
+        keep(&rt, path, b, &words)?;
+        for (name, count, last) in [(&b"kept"[..], 1, 60), (b"kept.1", 0, 0)] {
+            let mut back = [0; 16];
+            let found = restore(&rt, name, &mut back)?;
+            assert_eq!(rt; (found.num_pushed, found.last), (count, last));
+            unlink(&rt, name)?;
+        }
+        let none = b"none/kept";
+        assert_eq!(rt;
+            keep(&rt, none, b, &words).map_err(|e| e.kind()),
+            Err(ErrorKind::NotFound)
+        );
+        assert_eq!(rt;
+            keep(&rt, path, b, &[0; 7]).map_err(|e| e.kind()),
+            Err(ErrorKind::InvalidInput)
+        );
+        assert_eq!(rt; keep_dropping_error(&rt, none, b, &words), Err(NotSaved));
+        Ok(())
+    }
 }
