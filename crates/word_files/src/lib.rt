@@ -73,7 +73,7 @@ pub fn save(rt: &HostRuntime, path: &[u8], head: &[u64], words: &[u64]) -> Resul
     saving::save_in(rt, &dir, path, head, words)
 }
 
-// `save`, without the system's error. (By `save` a save of `burner` took 168 instructions more.)
+// `save`, without the system's error. (If it called `save` and dropped the error, a save of `burner` took 168 instructions more.)
 pub fn save_dropping_error(
     rt: &HostRuntime,
     path: &[u8],
@@ -95,7 +95,7 @@ mod tests {
     use super::*;
     use std::test::Fail;
 
-    // The file is there with its words; a path that no file can have is told by the error's kind, and by `NotSaved`.
+    // The file has the words, and the older one stands beside it. A file that is not saved is told by the error's kind, and by `NotSaved`.
     #[test]
     fn saves(rt: HostRuntime) -> Result<(), Fail> {
         let path = b"saved";
