@@ -7,7 +7,7 @@ use console_text::output::Output;
 use elias_fano::builder::{build, limit};
 use lines::Log;
 use record_file::opening::Settings;
-use record_file::{opening, sentences};
+use record_file::{keep_dropping_error, opening, sentences};
 use word_files::say;
 use word_files::say::Failure;
 
@@ -42,9 +42,7 @@ pub fn log(
 ) -> Result<(), Failure> {
     test_settings(settings, words.len(), out)?;
     let record = opening::to_log(rt, file, settings, &mut *words, out)?;
-    if record.num_pushed == 0
-        && record_file::keep_dropping_error(rt, file, record, &*words).is_err()
-    {
+    if record.num_pushed == 0 && keep_dropping_error(rt, file, record, &*words).is_err() {
         return Err(say::unusable(file, b" cannot be written"));
     }
     Log::begin(rt, file, record, every, words, out).run()

@@ -3,6 +3,7 @@ ghost use Rattle.std.specs.Prelude.{◌≤◌};
 
 use console_text::output::Output;
 use elias_fano::builder::{Builder, push};
+use record_file::keep_dropping_error;
 use std::io::Read;
 use word_files::say;
 use word_files::say::Failure;
@@ -91,13 +92,7 @@ impl<'a, 'b> Log<'a, 'b> {
 
     // Saves the record, and counts anew. What has gathered goes out before a failure is told.
     fn save(&mut self) -> Result<(), Failure> {
-        if record_file::keep_dropping_error(
-            self.rt,
-            self.file,
-            self.record,
-            &*self.words,
-        ).is_err()
-        {
+        if keep_dropping_error(self.rt, self.file, self.record, &*self.words).is_err() {
             self.out.flush();
             return Err(say::unusable(self.file, b" cannot be written"));
         }

@@ -4,6 +4,7 @@ use Rattle.errors.specs.Answer.{done}
 use Rattle.elias_fano_words.specs.Sizes.{start_len}
 use Rattle.elias_fano.specs.declared.builder.Builder.{Builder}
 use Rattle.elias_fano.specs.Steps.{resume_test}
+use Rattle.word_files.specs.Files.{PathFits}
 use Rattle.record_file.specs.Sum.{sum_of}
 use Rattle.record_file.specs.declared.KeptError.{KeptError}
 use Rattle.record_file.specs.declared.KeptError.TheVariants.{Missing, Unreadable, Refused, TooLong}
@@ -28,9 +29,9 @@ pub record Right (b : Builder) (check : ℕ) (ws : List ℕ) : Type 0 where
 abbrev pub StartLen : Builder → ℕ → Type 0
 StartLen b k = (0 < b.num_vals) × (b.num_vals ≤ 16777216) × (k ≡ start_len b.universe b.num_vals)
 
--- a builder's settings are in range, and there are as many words as its start has, or more
-abbrev pub HasStart : Builder → List ℕ → Type 0
-HasStart b ws = (0 < b.num_vals) × (b.num_vals ≤ 16777216) × (start_len b.universe b.num_vals ≤ length ws)
+-- a builder's settings are in range, there are as many words as its start has, or more, and the path has room for `.new`
+abbrev pub Keepable : Builder → List ℕ → List ℕ → Type 0
+Keepable b ws path = (0 < b.num_vals) × (b.num_vals ≤ 16777216) × (start_len b.universe b.num_vals ≤ length ws) × PathFits path 4
 
 abbrev pub StartIs : Builder → Option ℕ → Type 0
 StartIs b (Some k) = StartLen b k

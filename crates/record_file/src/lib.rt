@@ -1,12 +1,13 @@
 // A record that is still written, in a file: its builder's four numbers, the sum of them and the words, and then the words of its start.
 #![tactic(auto)]
 
-ghost use Rattle.std.specs.Prelude.{◌≡◌, ◌≤◌, length, take, IfOk};
+ghost use Rattle.std.specs.Prelude.{◌≡◌, ◌≤◌, length, take, IfOk, IfErr};
+ghost use Rattle.std.specs.IoError.{error_kind};
 ghost use Rattle.errors.specs.Answer.{done};
 ghost use Rattle.elias_fano.specs.Steps.{resume_test};
 ghost use Rattle.record_file.specs.Sum.{sum_of};
 ghost use Rattle.darray.specs.Pending.{Decides};
-ghost use Rattle.record_file.specs.Stored.{head_of, builder_of, StartLen, StartIs, HasStart, Right, Restores};
+ghost use Rattle.record_file.specs.Stored.{head_of, builder_of, StartLen, StartIs, Keepable, Right, Restores};
 
 use elias_fano::builder::{Builder, resume};
 use elias_fano_words::sizes::{MAX_VALS, of_record};
@@ -65,7 +66,8 @@ fn head(b: Builder, words: &[u64]) -> [u64; 5]
 
 // Saves the record: the builder and the words of its start, with which the lent ones begin.
 pub fn keep(rt: &HostRuntime, path: &[u8], b: Builder, words: &[u64]) -> Result<(), Error>
-    ensures { IfOk result (λ _. HasStart b words.now) }
+    ensures kept { IfOk result (λ _. Keepable b words.now path.now) }
+    ensures refused { (Keepable b words.now path.now → ⊥) → IfErr result (λ e. error_kind e ≡ ErrorKind.InvalidInput) }
 {
     match start_of(b) {
         Some(n) if n <= words.len() => {
@@ -83,7 +85,7 @@ pub fn keep_dropping_error(
     b: Builder,
     words: &[u64],
 ) -> Result<(), NotSaved>
-    ensures { IfOk result (λ _. HasStart b words.now) }
+    ensures { IfOk result (λ _. Keepable b words.now path.now) }
 {
     match start_of(b) {
         Some(n) if n <= words.len() => {

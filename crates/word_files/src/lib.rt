@@ -1,8 +1,9 @@
 // Words in files: a file holds words of 8 bytes, little end first.
 #![tactic(auto)]
 
-ghost use Rattle.std.specs.Prelude.{◌+◌, ◌<◌, ◌≤◌, length, IfOk};
-ghost use Rattle.word_files.specs.Files.{Within};
+ghost use Rattle.std.specs.Prelude.{◌≡◌, length, IfOk, IfErr};
+ghost use Rattle.std.specs.IoError.{error_kind};
+ghost use Rattle.word_files.specs.Files.{Within, PathFits};
 
 pub mod bytes;
 pub mod files;
@@ -64,7 +65,8 @@ pub fn load(rt: &HostRuntime, path: &[u8], words: &mut [u64]) -> Result<usize, L
 
 // The head and then the words become the file. On an error the file that stood there stands there still, unless only the directory could not be synced.
 pub fn save(rt: &HostRuntime, path: &[u8], head: &[u64], words: &[u64]) -> Result<(), Error>
-    ensures { IfOk result (λ _. (0 < length path.now) × (length path.now + 4 ≤ 4095)) }
+    ensures saved { IfOk result (λ _. PathFits path.now 4) }
+    ensures refused { (PathFits path.now 4 → ⊥) → IfErr result (λ e. error_kind e ≡ ErrorKind.InvalidInput) }
 {
     if !names::fits(path, 4) {
         return Err(Error::from(ErrorKind::InvalidInput));
@@ -80,7 +82,7 @@ pub fn save_dropping_error(
     head: &[u64],
     words: &[u64],
 ) -> Result<(), NotSaved>
-    ensures { IfOk result (λ _. (0 < length path.now) × (length path.now + 4 ≤ 4095)) }
+    ensures { IfOk result (λ _. PathFits path.now 4) }
 {
     if !names::fits(path, 4) {
         return Err(NotSaved);

@@ -1,5 +1,6 @@
 // The names beside a file's: its own with a suffix, and its directory.
-ghost use Rattle.std.specs.Prelude.{◌≡◌, ◌++◌, ◌+◌, ◌<◌, ◌≤◌, ◌↔◌, IsTrue, length, take};
+ghost use Rattle.std.specs.Prelude.{◌≡◌, ◌++◌, ◌≤◌, ◌↔◌, IsTrue, take};
+ghost use Rattle.word_files.specs.Files.{PathFits};
 
 use crate::files;
 use std::fs::File;
@@ -10,7 +11,7 @@ const LONGEST: usize = 4095;
 
 // Whether the path is not empty, and not too long with a suffix of so many bytes.
 pub fn fits(path: &[u8], suffix: usize) -> bool
-    ensures { IsTrue result ↔ (0 < length path.now) × (length path.now + suffix ≤ 4095) }
+    ensures { IsTrue result ↔ PathFits path.now suffix }
 {
     !path.is_empty() && suffix <= LONGEST && path.len() <= LONGEST - suffix
 }
